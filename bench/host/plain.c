@@ -1,0 +1,526 @@
+/* The stand-in in plain C, written from paper 01: the same calls with the same checks on the same record bytes (docs/RECORD.md), in place.
+   bench/host/run measures the archive beside it, and tests/host/bite seeds bugs into it to see that the tests find them. */
+#include "plain.h"
+#include <stdbool.h>
+#include <string.h>
+
+enum { SECTOR = 4096, COUNT = 244, FLASH = COUNT * SECTOR, MOST_KEYS = 100, SLOTS = 101, SLOT = 44, AUTH = 64, HEADER = 84 };
+#define NO_VERSION 0xFFFFFFFFu
+
+/* where the record's bytes are */
+enum {
+    PRESENT = 0, MODE = 1, KEYS = 2, AUTH_PRESENT = 3, AUTH_LOCK = 4, ROLLBACK = 5, LOADED = 6, ASKED = 7, ERROR = 8, MADE = 9,
+    VERSION = 10, SECTORS = 14, BOUNDARY = 18, JOB_P = 22, JOB_SIZE = 26, JOB_VERSION = 30, RECORDED = 34, FLOOR = 38,
+    LOCKS = 42, AUTH_KEY = 143, TYPES = 207, SIZES = 308, KEY_BYTES = 409, RECORD = 4853
+};
+enum { STACK_RUNS, IDLE, UPGRADE, DELETE };
+enum { SIMPLE = 1, MASTER = 2, ENCRYPTED = 3 };
+enum {
+    GET_STATE = 0xFC52, FW_UPGRADE = 0xFC54, FW_DELETE = 0xFC55, UPDATE_AUTH_KEY = 0xFC56, LOCK_AUTH_KEY = 0xFC57, STORE_USR_KEY = 0xFC58,
+    LOAD_USR_KEY = 0xFC59, START_WS = 0xFC5A, LOCK_USR_KEY = 0xFC5D, UNLOAD_USR_KEY = 0xFC5E, ACTIVATE_ANTIROLLBACK = 0xFC5F
+};
+
+static uint32_t word(const uint8_t *at) {
+    return at[0] | (uint32_t)at[1] << 8 | (uint32_t)at[2] << 16 | (uint32_t)at[3] << 24;
+}
+
+static void put_word(uint8_t *at, uint32_t x) {
+    at[0] = x;
+    at[1] = x >> 8;
+    at[2] = x >> 16;
+    at[3] = x >> 24;
+}
+
+static uint32_t sectors_of(uint32_t size) {
+    return size / SECTOR + (size % SECTOR != 0);
+}
+
+/* ---- sound records */
+
+static bool key_lawful(unsigned type, unsigned size) {
+    if (type == SIMPLE || type == MASTER)
+        return size == 16 || size == 32;
+    return type == ENCRYPTED && (size == 28 || size == 44);
+}
+
+static bool size_lawful(uint32_t size) {
+    return size >= HEADER && size % 4 == 0;
+}
+
+/* check 3 */
+static bool room_for(uint32_t p, uint32_t size, uint32_t boundary) {
+    return (uint64_t)p + sectors_of(size) + 1 <= boundary;
+}
+
+static bool slots_sound(const uint8_t *r) {
+    const uint8_t *locks = r + LOCKS, *types = r + TYPES, *sizes = r + SIZES;
+    uint8_t count = r[KEYS], good = 1;
+    for (uint8_t i = 1; i < SLOTS; i++) {
+        uint8_t simple = (types[i] == SIMPLE) & ((sizes[i] == 16) | (sizes[i] == 32));
+        uint8_t encrypted = (types[i] == ENCRYPTED) & ((sizes[i] == 28) | (sizes[i] == 44));
+        uint8_t none = (types[i] | sizes[i] | locks[i]) == 0;
+        good &= i <= count ? (simple | encrypted) & (locks[i] <= 1) : none;
+    }
+    bool master = types[0] == 0 ? sizes[0] == 0 : types[0] == MASTER && key_lawful(MASTER, sizes[0]);
+    return good && master && locks[0] == 0;
+}
+
+/* the stores of a job: b copies to q onward, then c sectors cleared, of which the first were the image's */
+struct plan {
+    uint32_t p, b, q, boundary, image_cleared, cleared;
+};
+
+static struct plan plan_of(const uint8_t *r) {
+    struct plan j = {.p = word(r + JOB_P), .b = sectors_of(word(r + JOB_SIZE)), .boundary = word(r + BOUNDARY)};
+    j.q = COUNT - j.b;
+    j.image_cleared = j.p + j.b < j.q ? j.b : j.q - j.p;
+    j.cleared = j.image_cleared + (j.boundary < j.q ? j.q - j.boundary : 0);
+    return j;
+}
+
+static bool job_sound(const uint8_t *r) {
+    uint32_t p = word(r + JOB_P), size = word(r + JOB_SIZE), version = word(r + JOB_VERSION), recorded = word(r + RECORDED);
+    if (r[MODE] == UPGRADE) {
+        if (!size_lawful(size) || version == NO_VERSION || !room_for(p, size, word(r + BOUNDARY)))
+            return false;
+    } else if (!r[PRESENT] || p || size || version) {
+        return false;
+    }
+    struct plan j = plan_of(r);
+    if (recorded < j.b)
+        return r[MADE] <= 2;
+    if (recorded < j.b + j.cleared)
+        return r[MADE] <= 1;
+    return recorded == j.b + j.cleared && r[MADE] == 0;
+}
+
+static bool error_sound(uint8_t e) {
+    return e <= 0x04 || e == 0x0A || e == 0x11 || e == 0xFF;
+}
+
+static bool head_sound(const uint8_t *r) {
+    uint32_t boundary = word(r + BOUNDARY), version = word(r + VERSION);
+    for (int i = 0; i < 3; i++)
+        if (r[AUTH_PRESENT + i] > 1)
+            return false;
+    if (r[PRESENT] > 1 || r[ASKED] > 1 || r[MODE] > DELETE)
+        return false;
+    if (boundary < 1 || boundary > COUNT || word(r + SECTORS) != COUNT - boundary)
+        return false;
+    if (r[PRESENT] != (boundary != COUNT) || r[PRESENT] != (version != NO_VERSION))
+        return false;
+    if (r[AUTH_LOCK] > r[AUTH_PRESENT] || (r[ASKED] && r[MODE] != STACK_RUNS) || (!r[ROLLBACK] && word(r + FLOOR)))
+        return false;
+    if (r[ERROR] && (r[MODE] != IDLE || !error_sound(r[ERROR])))
+        return false;
+    if (r[KEYS] > MOST_KEYS || r[LOADED] > r[KEYS])
+        return false;
+    if (r[MODE] == UPGRADE || r[MODE] == DELETE)
+        return job_sound(r);
+    if (r[MADE] || word(r + JOB_P) || word(r + JOB_SIZE) || word(r + JOB_VERSION) || word(r + RECORDED))
+        return false;
+    return r[MODE] == IDLE || r[PRESENT];
+}
+
+static bool sound(const uint8_t *r, size_t length) {
+    if (length != RECORD || !head_sound(r) || !slots_sound(r))
+        return false;
+    return r[TYPES + r[LOADED]] != ENCRYPTED || r[TYPES] == MASTER;
+}
+
+/* ---- packets */
+
+static uint8_t refused(uint8_t number, uint8_t *reply, size_t length) {
+    if (length)
+        memset(reply, 0, length);
+    return number;
+}
+
+static bool payload_lawful(uint16_t opcode, uint8_t length) {
+    switch (opcode) {
+    case UPDATE_AUTH_KEY:
+        return length == 1 + AUTH;
+    case STORE_USR_KEY:
+        return length >= 2;
+    case LOAD_USR_KEY:
+    case LOCK_USR_KEY:
+    case UNLOAD_USR_KEY:
+        return length == 1;
+    default:
+        return length == 0;
+    }
+}
+
+static bool listed(uint16_t opcode) {
+    return opcode >= GET_STATE && opcode <= ACTIVATE_ANTIROLLBACK && opcode != 0xFC53 && opcode != 0xFC5B && opcode != 0xFC5C;
+}
+
+static uint8_t read_packet(const uint8_t *packet, size_t length, uint16_t *opcode) {
+    if (length < 4)
+        return 4;
+    if (packet[0] != 0x10)
+        return 5;
+    if (packet[3] != length - 4)
+        return 6;
+    *opcode = packet[1] | packet[2] << 8;
+    if (!listed(*opcode))
+        return 7;
+    if (!payload_lawful(*opcode, packet[3]))
+        return 8;
+    if (*opcode == STORE_USR_KEY && packet[5] != packet[3] - 2)
+        return 9;
+    if (*opcode == UPDATE_AUTH_KEY && packet[4] != AUTH)
+        return 9;
+    return 0;
+}
+
+static void put_event(const uint8_t *r, uint8_t *event, size_t length) {
+    const uint8_t bytes[6] = {0x12, 0xFF, 0x03, 0x00, 0x92, r[MODE] == STACK_RUNS ? 0 : 1};
+    memcpy(event, bytes, 6);
+    memset(event + 6, 0, length - 6);
+}
+
+/* ---- commands */
+
+static void lose(uint8_t *r) {
+    r[LOADED] = r[ASKED] = r[ERROR] = r[MADE] = 0;
+    memset(r + LOCKS, 0, SLOTS);
+}
+
+static uint32_t sum(const uint8_t *body, size_t length) {
+    uint32_t all = 0;
+    for (const uint8_t *end = body + length / 4 * 4; body != end; body += 4)
+        all += word(body);
+    return all;
+}
+
+static void erase(uint8_t *flash, uint32_t t) {
+    memset(flash + (size_t)t * SECTOR, 0xFF, SECTOR);
+}
+
+/* the first hit, or COUNT */
+static uint32_t search(const uint8_t *flash, uint32_t boundary) {
+    for (uint32_t t = boundary; t-- > 0;)
+        if (memcmp(flash + (size_t)t * SECTOR, "BNI\1\0", 5) == 0)
+            return t;
+    return COUNT;
+}
+
+static bool header_good(const uint8_t *image) {
+    return image[5] == 1 && image[6] <= 1 && image[7] <= 1 && size_lawful(word(image + 8)) && word(image + 12) != NO_VERSION;
+}
+
+/* FW_UPGRADE: 0 and the job is recorded, or E */
+static uint8_t upgrade(uint8_t *r, uint8_t *flash) {
+    uint32_t boundary = word(r + BOUNDARY), p = search(flash, boundary);
+    if (p == COUNT)
+        return 0x01;
+    const uint8_t *image = flash + (size_t)p * SECTOR;
+    uint32_t size = word(image + 8), version = word(image + 12);
+    if (!header_good(image)) {
+        erase(flash, p);
+        return 0x02;
+    }
+    if (!room_for(p, size, boundary))
+        return 0x04;
+    if (sum(image + HEADER, size - HEADER) != word(image + 16)) {
+        erase(flash, p);
+        return 0x02;
+    }
+    if (image[6] == 0)
+        return 0x03;
+    if (r[AUTH_PRESENT] && (image[7] == 0 || memcmp(image + 20, r + AUTH_KEY, AUTH) != 0))
+        return 0x03;
+    if (r[ROLLBACK] && version < word(r + FLOOR))
+        return 0x11;
+    r[MODE] = UPGRADE;
+    put_word(r + JOB_P, p);
+    put_word(r + JOB_SIZE, size);
+    put_word(r + JOB_VERSION, version);
+    return 0;
+}
+
+/* the index given, or 0xFF */
+static uint8_t store_key(uint8_t *r, uint8_t type, const uint8_t *key, uint8_t size) {
+    if (!key_lawful(type, size))
+        return 0xFF;
+    if (type == MASTER ? r[TYPES] != 0 : r[KEYS] == MOST_KEYS)
+        return 0xFF;
+    uint8_t slot = type == MASTER ? 0 : ++r[KEYS];
+    r[TYPES + slot] = type;
+    r[SIZES + slot] = size;
+    memcpy(r + KEY_BYTES + slot * SLOT, key, size);
+    return slot;
+}
+
+static bool load_key(uint8_t *r, uint8_t index) {
+    if (index == 0 || index > r[KEYS] || r[LOCKS + index] || (r[TYPES + index] == ENCRYPTED && r[TYPES] != MASTER))
+        return false;
+    r[LOADED] = index;
+    return true;
+}
+
+static bool lock_key(uint8_t *r, uint8_t index) {
+    if (index == 0 || index > r[KEYS])
+        return false;
+    r[LOCKS + index] = 1;
+    return true;
+}
+
+static bool unload_key(uint8_t *r, uint8_t index) {
+    if (index == 0 || index != r[LOADED])
+        return false;
+    r[LOADED] = 0;
+    return true;
+}
+
+/* a command other than GET_STATE with FUS idle: 0 or E; `given` is STORE's index */
+static uint8_t idle(uint8_t *r, uint8_t *flash, uint16_t opcode, const uint8_t *payload, uint8_t length, uint8_t *given) {
+    switch (opcode) {
+    case FW_UPGRADE:
+        return upgrade(r, flash);
+    case FW_DELETE:
+        if (!r[PRESENT])
+            return 0x01;
+        r[MODE] = DELETE;
+        return 0;
+    case START_WS:
+        if (!r[PRESENT])
+            return 0x01;
+        lose(r);
+        r[MODE] = STACK_RUNS;
+        return 0;
+    case UPDATE_AUTH_KEY:
+        if (r[AUTH_LOCK])
+            return 0x0A;
+        r[AUTH_PRESENT] = 1;
+        memcpy(r + AUTH_KEY, payload + 1, AUTH);
+        return 0;
+    case LOCK_AUTH_KEY:
+        if (!r[AUTH_PRESENT])
+            return 0xFF;
+        r[AUTH_LOCK] = 1;
+        return 0;
+    case STORE_USR_KEY:
+        *given = store_key(r, payload[0], payload + 2, length - 2);
+        return *given == 0xFF ? 0xFF : 0;
+    case LOAD_USR_KEY:
+        return load_key(r, payload[0]) ? 0 : 0xFF;
+    case LOCK_USR_KEY:
+        return lock_key(r, payload[0]) ? 0 : 0xFF;
+    case UNLOAD_USR_KEY:
+        return unload_key(r, payload[0]) ? 0 : 0xFF;
+    default:
+        if (!r[ROLLBACK])
+            memcpy(r + FLOOR, r + VERSION, 4);
+        r[ROLLBACK] = 1;
+        return 0;
+    }
+}
+
+/* GET_STATE: the state, and the error behind it */
+static uint8_t get_state(uint8_t *r, uint8_t *error) {
+    *error = 0x00;
+    if (r[MODE] == UPGRADE || r[MODE] == DELETE)
+        return 0x10;
+    if (r[MODE] == IDLE) {
+        *error = r[ERROR];
+        r[ERROR] = 0;
+        return *error ? 0xFF : 0x00;
+    }
+    *error = 0xFE;
+    if (r[ASKED]) {
+        lose(r);
+        r[MODE] = IDLE;
+    } else {
+        r[ASKED] = 1;
+    }
+    return 0xFF;
+}
+
+/* ---- the calls */
+
+size_t plain_record_bytes(void) {
+    return RECORD;
+}
+
+uint8_t plain_fresh(uint8_t *record, size_t record_len) {
+    if (record_len != RECORD)
+        return 1;
+    memset(record, 0, RECORD);
+    record[MODE] = IDLE;
+    put_word(record + VERSION, NO_VERSION);
+    put_word(record + BOUNDARY, COUNT);
+    return 0;
+}
+
+uint8_t plain_read(const uint8_t *packet, size_t packet_len, uint16_t *opcode, uint8_t *payload_len) {
+    uint8_t number = read_packet(packet, packet_len, opcode);
+    if (number)
+        *opcode = 0;
+    *payload_len = number ? 0 : packet[3];
+    return number;
+}
+
+uint8_t plain_handle(uint8_t *record, size_t record_len, uint8_t *flash, size_t flash_len, const uint8_t *packet, size_t packet_len,
+                     uint8_t *reply, size_t reply_len) {
+    uint16_t opcode;
+    if (!sound(record, record_len))
+        return refused(1, reply, reply_len);
+    if (flash_len != FLASH)
+        return refused(2, reply, reply_len);
+    if (reply_len < 8)
+        return refused(3, reply, reply_len);
+    uint8_t number = read_packet(packet, packet_len, &opcode);
+    if (number)
+        return refused(number, reply, reply_len);
+    uint8_t status = 0x01, last = 0xFF, length = opcode == GET_STATE || opcode == STORE_USR_KEY ? 5 : 4;
+    if (opcode == GET_STATE) {
+        status = get_state(record, &last);
+    } else if (record[MODE] == IDLE) {
+        uint8_t error = idle(record, flash, opcode, packet + 4, packet[3], &last);
+        record[ERROR] = error;
+        status = error != 0;
+    } else {
+        record[ASKED] = 0;
+    }
+    const uint8_t bytes[8] = {0x11, 0x0E, length, 0xFF, packet[1], packet[2], status, length == 5 ? last : 0};
+    memcpy(reply, bytes, 8);
+    memset(reply + 8, 0, reply_len - 8);
+    return 0;
+}
+
+uint8_t plain_restart(uint8_t *record, size_t record_len, uint8_t *event, size_t event_len) {
+    if (!sound(record, record_len))
+        return refused(1, event, event_len);
+    if (event_len < 6)
+        return refused(3, event, event_len);
+    lose(record);
+    put_event(record, event, event_len);
+    return 0;
+}
+
+enum kind { ERASE, WRITE, RECORD_IT, LAST };
+
+struct store {
+    enum kind kind;
+    uint32_t target, source, count;
+};
+
+static struct store next_store(const uint8_t *r, const struct plan *j) {
+    uint32_t done = word(r + RECORDED);
+    struct store s = {.kind = LAST};
+    if (done < j->b) {
+        uint32_t i = j->b - 1 - done, rest = word(r + JOB_SIZE) - i * SECTOR;
+        s.kind = r[MADE] == 0 ? ERASE : r[MADE] == 1 ? WRITE : RECORD_IT;
+        s.target = j->q + i;
+        s.source = j->p + i;
+        s.count = rest < SECTOR ? rest : SECTOR;
+    } else if (done < j->b + j->cleared) {
+        uint32_t i = done - j->b;
+        s.kind = r[MADE] == 0 ? ERASE : RECORD_IT;
+        s.target = i < j->image_cleared ? j->p + i : j->boundary + (i - j->image_cleared);
+    }
+    return s;
+}
+
+/* the stores still to do */
+static uint32_t left_of(const uint8_t *r, const struct plan *j) {
+    uint32_t done = word(r + RECORDED);
+    uint32_t copies = done < j->b ? j->b - done : 0;
+    return 3 * copies + 2 * (j->b + j->cleared - done - copies) + 1 - r[MADE];
+}
+
+static void commit(uint8_t *r, const struct plan *j) {
+    bool installs = r[MODE] == UPGRADE;
+    uint32_t version = installs ? word(r + JOB_VERSION) : NO_VERSION;
+    r[PRESENT] = installs;
+    r[MODE] = installs ? STACK_RUNS : IDLE;
+    put_word(r + VERSION, version);
+    put_word(r + SECTORS, j->b);
+    put_word(r + BOUNDARY, j->q);
+    if (installs && r[ROLLBACK])
+        put_word(r + FLOOR, version);
+    memset(r + JOB_P, 0, FLOOR - JOB_P);
+    lose(r);
+}
+
+static void record_sector(uint8_t *r) {
+    put_word(r + RECORDED, word(r + RECORDED) + 1);
+    r[MADE] = 0;
+}
+
+static void write_sector(uint8_t *flash, const struct store *s) {
+    uint8_t *to = flash + (size_t)s->target * SECTOR;
+    memcpy(to, flash + (size_t)s->source * SECTOR, s->count);
+    memset(to + s->count, 0xFF, SECTOR - s->count);
+}
+
+static bool has_job(const uint8_t *r) {
+    return r[MODE] == UPGRADE || r[MODE] == DELETE;
+}
+
+uint8_t plain_work(uint8_t *record, size_t record_len, uint8_t *flash, size_t flash_len, uint32_t *left) {
+    *left = 0;
+    if (!sound(record, record_len))
+        return 1;
+    if (flash_len != FLASH)
+        return 2;
+    if (!has_job(record))
+        return 0;
+    struct plan j = plan_of(record);
+    struct store s = next_store(record, &j);
+    *left = left_of(record, &j) - 1;
+    switch (s.kind) {
+    case ERASE:
+        erase(flash, s.target);
+        record[MADE]++;
+        break;
+    case WRITE:
+        write_sector(flash, &s);
+        record[MADE]++;
+        break;
+    case RECORD_IT:
+        record_sector(record);
+        break;
+    case LAST:
+        commit(record, &j);
+        break;
+    }
+    return 0;
+}
+
+uint8_t plain_cut(uint8_t *record, size_t record_len, uint8_t *flash, size_t flash_len, const uint8_t *filler, size_t filler_len,
+                  uint8_t through, uint8_t *event, size_t event_len) {
+    if (!sound(record, record_len))
+        return refused(1, event, event_len);
+    if (flash_len != FLASH)
+        return refused(2, event, event_len);
+    if (event_len < 6)
+        return refused(3, event, event_len);
+    if (filler_len != SECTOR)
+        return refused(10, event, event_len);
+    if (has_job(record)) {
+        struct plan j = plan_of(record);
+        struct store s = next_store(record, &j);
+        if (s.kind == ERASE || s.kind == WRITE)
+            memcpy(flash + (size_t)s.target * SECTOR, filler, SECTOR);
+        else if (through && s.kind == RECORD_IT)
+            record_sector(record);
+        else if (through)
+            commit(record, &j);
+    }
+    lose(record);
+    put_event(record, event, event_len);
+    return 0;
+}
+
+size_t plain_next_message(const uint8_t *event, size_t event_len, const uint8_t *response, size_t response_len) {
+    if (event_len >= 6 && event[0] == 0x12 && event[1] == 0xFF && event[2] == 0x03)
+        return 6;
+    if (response_len >= 7 && response[0] == 0x11 && response[1] == 0x0E && response[2] == 0x04)
+        return 7;
+    if (response_len >= 8 && response[0] == 0x11 && response[1] == 0x0E && response[2] == 0x05)
+        return 8;
+    return 0;
+}

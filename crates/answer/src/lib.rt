@@ -1,0 +1,103 @@
+// What FUS answers to a lawful command, and why it fails one.
+ghost use mathlib.Core.Path.{_≡_};
+ghost use Rattle.answer.specs.Answers.{errorOf, statusOf, payloadOf};
+
+// Every way in which a lawful command fails.
+pub enum Failure {
+    // the stack runs, or a job is under way: no error becomes pending
+    StackRuns,
+    JobUnderWay,
+    // FW_DELETE, START_WS
+    NoStack,
+    // FW_UPGRADE: checks 1 to 7
+    NoImage,
+    BadHeader,
+    NoRoom,
+    WrongSum,
+    NotSealed,
+    WrongTag,
+    UnderFloor,
+    // UPDATE_AUTH_KEY, LOCK_AUTH_KEY
+    AuthLocked,
+    NoAuthKey,
+    // STORE_USR_KEY
+    BadType,
+    BadSize,
+    SecondMaster,
+    StoreFull,
+    // LOAD, LOCK and UNLOAD_USR_KEY
+    NotStored,
+    KeyLocked,
+    NoMaster,
+    NotLoaded,
+}
+
+// What the seven checks find: an image at sector p that is taken, a check that fails, or one that fails and has sector p erased.
+pub enum Checked {
+    Good { p: u32, size: u32, version: u32 },
+    Fails(Failure),
+    Erases { failure: Failure, p: u32 },
+}
+
+// What a lawful command is answered.
+pub enum Answer {
+    // GET_STATE
+    State { state: u8, error: u8 },
+    // STORE_USR_KEY, accepted
+    Stored { index: u8 },
+    // any other command, accepted
+    Accepted,
+    Failed(Failure),
+}
+
+// The error that a failure makes pending; 0 where it makes none.
+pub fn error_of(failure: Failure) -> u8
+    ensures { λ r. ⌜ r ≡ errorOf failure ⌝ }
+{
+    match failure {
+        Failure::StackRuns => 0,
+        Failure::JobUnderWay => 0,
+        Failure::NoStack => 0x01,
+        Failure::NoImage => 0x01,
+        Failure::BadHeader => 0x02,
+        Failure::NoRoom => 0x04,
+        Failure::WrongSum => 0x02,
+        Failure::NotSealed => 0x03,
+        Failure::WrongTag => 0x03,
+        Failure::UnderFloor => 0x11,
+        Failure::AuthLocked => 0x0A,
+        Failure::NoAuthKey => 0xFF,
+        Failure::BadType => 0xFF,
+        Failure::BadSize => 0xFF,
+        Failure::SecondMaster => 0xFF,
+        Failure::StoreFull => 0xFF,
+        Failure::NotStored => 0xFF,
+        Failure::KeyLocked => 0xFF,
+        Failure::NoMaster => 0xFF,
+        Failure::NotLoaded => 0xFF,
+    }
+}
+
+// The status byte of the response.
+pub fn status_of(answer: Answer) -> u8
+    ensures { λ r. ⌜ r ≡ statusOf answer ⌝ }
+{
+    match answer {
+        Answer::State { state, error: _ } => state,
+        Answer::Stored { index: _ } => 0x00,
+        Answer::Accepted => 0x00,
+        Answer::Failed(_) => 0x01,
+    }
+}
+
+// Its payload byte, for the commands that have one.
+pub fn payload_of(answer: Answer) -> u8
+    ensures { λ r. ⌜ r ≡ payloadOf answer ⌝ }
+{
+    match answer {
+        Answer::State { state: _, error } => error,
+        Answer::Stored { index } => index,
+        Answer::Accepted => 0x00,
+        Answer::Failed(_) => 0xFF,
+    }
+}

@@ -1,0 +1,1 @@
+// No code: what the definitions and the proofs of every crate stand on.

@@ -1,0 +1,16 @@
+use mathlib.Core.Path.{refl}
+use Rattle.basics.specs.Words.{zeros}
+use Rattle.device.specs.Kind.{freshDevice}
+use borrow.Author.Needs.{needs}
+use Rattle.device.proofs.Device.fresh.Statement.{statement}
+use Rattle.device.proofs.Device.fresh.Tie as tie
+
+cast-t1 : tie.Need-cast-t1
+cast-t1 c = search needs
+
+returns : tie.Need-returns
+unfolding freshDevice zeros
+returns c = refl
+
+pub fresh-spec : {M : Type 1} → statement M
+fresh-spec = tie.close (tie.spec cast-t1 returns)

@@ -1,0 +1,4 @@
+pub mod Packets
+pub mod Lawful
+pub mod Replies
+pub mod Message

@@ -1,0 +1,13 @@
+pub mod Tests
+pub mod Uncut
+pub mod Due
+pub mod Invariant
+pub mod Counting
+pub mod Crash
+pub mod Aims
+pub mod Padded
+pub mod Laid
+pub mod Done
+pub mod Cleared
+pub mod Bounds
+pub mod Chosen

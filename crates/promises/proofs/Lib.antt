@@ -1,0 +1,4 @@
+pub mod Both
+pub mod Cases
+pub mod Room
+pub mod Under

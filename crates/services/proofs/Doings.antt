@@ -1,0 +1,154 @@
+-- What a sound record with a job says of it, and what its stores do to the device.
+-- Assumes nothing.
+use Prim.Native.Nat.{ℕ, suc, _+_, _-_, _*_, _/_, _≤_, _<_}
+use mathlib.Core.Bool.{Bool, true, false, not, _&&_, Bool·beq}
+use mathlib.Core.Path.{_≡_, refl, ap, _∙_}
+use mathlib.Core.List.{List}
+use native.Mathlib.Nat.{mul-le-mul-right, div-eq-of-lt}
+use native.Mathlib.Omega.{arith}
+use borrow.Author.Tests.{leb-true}
+use lib.Dec.{leb, eqb}
+use lib.ListN.{length}
+use Rattle.basics.specs.Choice.{pick}
+use Rattle.basics.specs.Words.{zeros}
+use Rattle.sectors.specs.Sectors.{sectorsFor}
+use Rattle.sectors.proofs.Laws.{reaches}
+use Rattle.image.specs.Images.{sizeLawful, versionLawful, roomFor}
+use Rattle.plan.specs.declared.Job.{Job}
+use Rattle.plan.specs.declared.Store.{Store}
+use Rattle.plan.specs.declared.Store.the-variants.{Erase, Write, Record, Last}
+use Rattle.plan.specs.Placement.{Able}
+use Rattle.plan.specs.Range.{InRange}
+use Rattle.plan.specs.Safe.{Safe}
+use Rattle.plan.specs.Stores.{Plan, Progress, going, ended, planOf, steps, wants, onward, cutShort, stored, spoilt}
+use Rattle.plan.proofs.Aims.{job-safe}
+use Rattle.plan.proofs.Done.{blocks-hold}
+use Rattle.plan.proofs.Due.{wants-is, Due, due}
+use Rattle.device.specs.declared.Head.{Head}
+use Rattle.device.specs.declared.Device.{Device}
+use Rattle.device.specs.declared.Mode.{Mode}
+use Rattle.device.specs.declared.Mode.the-variants.{Stack, Idle, Upgrade, Delete}
+use Rattle.device.specs.Whole.{withHead, withLocks}
+use Rattle.device.specs.Sound.{jobOf, planFor, progressSound, modeSound, sound}
+use Rattle.device.proofs.Laws.{and-left, and-right}
+use Rattle.device.proofs.Parts.{parts}
+use Rattle.services.specs.declared.Numbers.{Numbers}
+use Rattle.services.specs.declared.Turn.{Turn}
+use Rattle.services.specs.declared.Verdict.the-variants.{Taken}
+use Rattle.services.specs.Calls.{Sensible, workResult, restarting, workedOn, cutIn}
+use Rattle.services.specs.Jobs.{hasJob, recordedIn, progressed, headAt, endedAt, nextStore, turnAt, workTurn, cutTurn, Within, Doing}
+use Rattle.services.proofs.Laws.{boundary-some, boundary-low}
+
+-- the new stack lies below FUS
+pub stack-low : (S top : ℕ) (h : Head) (p size version recorded : ℕ) → Doing S top h → h .mode ≡ Upgrade p size version recorded → (sectorsFor S size ≤ top) × (top ≤ 65536)
+stack-low S top h p size version recorded d e =
+    let room = rw e at (d .able .room) in
+    let under = rw e at (d .able .under) in
+    (omega arith, omega (arith, d .range .count))
+
+module _ {S top : ℕ} {h : Head} (d : Doing S top h) where
+  pub made-few : h .made ≤ 2
+  made-few = omega (arith, d .most, wants-is (planFor S top h) (recordedIn (h .mode)))
+
+  pub recorded-few : recordedIn (h .mode) ≤ 196608
+  unfolding planOf
+  recorded-few = omega (arith, d .low, d .able .room, d .able .under, d .range .count)
+
+  -- a turn is that of the next store
+  pub worked-as : (store : Store) (at : Progress) → store ≡ nextStore S top h → onward store (recordedIn (h .mode)) (h .made) ≡ at → turnAt S top h store at ≡ workTurn S top h
+  worked-as store at e f = rw (← f, e)
+
+  pub cut-as : (store : Store) (through : Bool) (at : Progress) → store ≡ nextStore S top h → cutShort store through (recordedIn (h .mode)) ≡ at → turnAt S top h store at ≡ cutTurn S top h through
+  cut-as store through at e f = rw (← f, e)
+
+  -- the next store lies within the lent flash
+  within-as : (N : ℕ) (F : List ℕ) → Safe S N (planFor S top h) → length F ≡ N * S → (store : Store) → Due (planFor S top h) (recordedIn (h .mode)) (h .made) store → Within S (length F) store
+  unfolding Due
+  within-as N F safe e (Erase t) (l, m, q) = rw q (reaches S N F e _ (safe .targets _ l))
+  within-as N F safe e (Write t s n) (l, m, q, r, u) =
+      rw (q, r, u) (reaches S N F e _ (safe .targets _ (omega arith)), reaches S N F e _ (safe .sources _ l), safe .whole _ l, safe .apart _ _ (omega arith) l)
+  within-as N F safe e Record q = tt
+  within-as N F safe e Last q = tt
+
+  pub within : (N : ℕ) (F : List ℕ) → top ≤ N → length F ≡ N * S → Within S (length F) (nextStore S top h)
+  within N F low e =
+      within-as N F (job-safe (d .able) low) e (nextStore S top h) (due (planFor S top h) (recordedIn (h .mode)) (h .made) (d .low) (d .most))
+
+-- the device at a point of its job, by its head and whether the locks are dropped
+progressed-by : (S top : ℕ) (d : Device) (at : Progress)
+    → pick (endedAt at) (withLocks (zeros 101) (withHead (headAt S top (d .head) at) d)) (withHead (headAt S top (d .head) at) d) ≡ progressed S top d at
+unfolding pick
+progressed-by S top d (going k m) = refl
+progressed-by S top d ended = refl
+
+pub worked-by : (k : Numbers) (d : Device) (F : List ℕ)
+    → workResult Taken
+    (pick (workTurn (k .size) (k .top) (d .head) .ended)
+    (withLocks (zeros 101) (withHead (workTurn (k .size) (k .top) (d .head) .head) d)) (withHead (workTurn (k .size) (k .top) (d .head) .head) d))
+    (stored (k .size) (workTurn (k .size) (k .top) (d .head) .store) F) (workTurn (k .size) (k .top) (d .head) .left)
+    ≡ workedOn k d F
+worked-by k d F =
+    ap (λ (x : Device). workResult Taken x (stored (k .size) (nextStore (k .size) (k .top) (d .head)) F) (workTurn (k .size) (k .top) (d .head) .left))
+    (progressed-by (k .size) (k .top) d (onward (nextStore (k .size) (k .top) (d .head)) (recordedIn (d .head .mode)) (d .head .made)))
+
+-- a restart from a point of the job
+started-by : (S top : ℕ) (d : Device) (at : Progress) (F R : List ℕ) → restarting (withHead (headAt S top (d .head) at) d) F R ≡ restarting (progressed S top d at) F R
+started-by S top d (going k m) F R = refl
+started-by S top d ended F R = refl
+
+pub cut-by : (k : Numbers) (d : Device) (F x : List ℕ) (through : Bool) (R : List ℕ)
+    → restarting (withHead (cutTurn (k .size) (k .top) (d .head) through .head) d) (spoilt (k .size) (cutTurn (k .size) (k .top) (d .head) through .store) x F) R
+    ≡ cutIn k d F x through R
+cut-by k d F x through R =
+    started-by (k .size) (k .top) d (cutShort (nextStore (k .size) (k .top) (d .head)) through (recordedIn (d .head .mode))) (spoilt (k .size) (nextStore (k .size) (k .top) (d .head)) x F) R
+
+never : false ≡ true → ⊥
+never e = let z : _≡_ {A = ℕ} 0 1 = cc in omega arith
+
+-- what a sound mode with a job says
+module _ (S top boundary : ℕ) (some : 0 < S) (first : 1 ≤ boundary) (under : boundary ≤ top) (present : Bool) (made : ℕ) where
+  none-of : sectorsFor S 0 ≡ 0
+  none-of = let l : 0 + (S - 1) < S = omega arith in div-eq-of-lt l
+
+  abbrev upgrade : (p size version : ℕ) → Bool
+  upgrade p size version = sizeLawful size && versionLawful version && roomFor S p size boundary
+
+  abbrev progress : Mode → Bool
+  progress mode = progressSound (planOf S top (jobOf boundary mode)) (recordedIn mode) made
+
+  job-able : (mode : Mode) → hasJob mode ≡ true → modeSound S top mode present boundary made ≡ true → Able S top (jobOf boundary mode)
+  job-able Stack j m = absurd (never j)
+  job-able Idle j m = absurd (never j)
+  job-able (Upgrade p size version recorded) j m =
+      record { some = some; room = leb-true _ _ (and-right (sizeLawful size && versionLawful version) _ (and-left (upgrade p size version) (progress (Upgrade p size version recorded)) m)); under = under }
+  job-able (Delete recorded) j m = record { some = some; room = rw none-of first; under = under }
+
+  job-progress : (mode : Mode) → hasJob mode ≡ true → modeSound S top mode present boundary made ≡ true → progress mode ≡ true
+  job-progress Stack j m = let z : false ≡ true = j in cc
+  job-progress Idle j m = let z : false ≡ true = j in cc
+  job-progress (Upgrade p size version recorded) j m = and-right (upgrade p size version) (progress (Upgrade p size version recorded)) m
+  job-progress (Delete recorded) j m = and-right present (progress (Delete recorded)) m
+
+-- a job that can be carried out has a size of four bytes
+job-range : (S top : ℕ) (job : Job) → S ≤ 65536 → top ≤ 65536 → Able S top job → InRange S top job
+job-range S top job small few a =
+    let b : ℕ = sectorsFor S (job .size) in
+    let l : b ≤ 65535 = omega (arith, a .room, a .under) in
+    record { some = a .some; bytes = small; count = few; image = omega (arith, blocks-hold S (job .size) (a .some), mul-le-mul-right S l) }
+
+pub doing : (k : Numbers) (d : Device) → Sensible k → sound (k .size) (k .top) d ≡ true → hasJob (d .head .mode) ≡ true → Doing (k .size) (k .top) (d .head)
+doing k d s e j =
+    let h : Head = d .head in
+    let m : modeSound (k .size) (k .top) (h .mode) (h .present) (h .boundary) (h .made) ≡ true = parts (k .size) (k .top) d e .numbers .job in
+    let some : 0 < k .size = omega (arith, s .header) in
+    let first : 1 ≤ h .boundary = boundary-some (k .size) (k .top) d e in
+    let under : h .boundary ≤ k .top = boundary-low (k .size) (k .top) d e in
+    let a : Able (k .size) (k .top) (jobOf (h .boundary) (h .mode)) = job-able (k .size) (k .top) (h .boundary) some first under (h .present) (h .made) (h .mode) j m in
+    let p : progressSound (planFor (k .size) (k .top) h) (recordedIn (h .mode)) (h .made) ≡ true = job-progress (k .size) (k .top) (h .boundary) some first under (h .present) (h .made) (h .mode) j m in
+    record {
+      job = j;
+      able = a;
+      range = job-range (k .size) (k .top) (jobOf (h .boundary) (h .mode)) (s .small) (omega (arith, s .below, s .few)) a;
+      low = leb-true _ _ (and-left (leb (recordedIn (h .mode)) (steps (planFor (k .size) (k .top) h))) (leb (h .made) (wants (planFor (k .size) (k .top) h) (recordedIn (h .mode)))) p);
+      most = leb-true _ _ (and-right (leb (recordedIn (h .mode)) (steps (planFor (k .size) (k .top) h))) (leb (h .made) (wants (planFor (k .size) (k .top) h) (recordedIn (h .mode)))) p);
+    }

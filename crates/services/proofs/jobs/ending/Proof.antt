@@ -1,0 +1,21 @@
+use Rattle.plan.specs.Stores.{leftAt}
+use borrow.Author.Needs.{needs}
+use Rattle.services.proofs.jobs.ending.Statement.{statement}
+use Rattle.services.proofs.jobs.ending.Tie as tie
+use Rattle.services.proofs.jobs.ending.Reads as reads
+use Rattle.services.proofs.jobs.ending.Lts as lts
+use Rattle.device.proofs.Head.lost.Reads as lost-reads
+use Rattle.services.proofs.jobs.commit.Reads as commit-reads
+
+commit-requires : tie.Need-commit-requires
+commit-requires c κs = search needs
+
+lost-requires : tie.Need-lost-requires
+lost-requires c κs = search needs
+
+returns : tie.Need-returns
+unfolding leftAt
+returns c = rw (c .lost .ensures, c .before .commit .ensures)
+
+pub ending-spec : {M : Type 1} → statement M
+ending-spec = tie.close (tie.spec commit-requires lost-requires returns)

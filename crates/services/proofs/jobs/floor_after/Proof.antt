@@ -1,0 +1,14 @@
+use Rattle.basics.specs.Choice.{cases}
+use Rattle.services.proofs.jobs.floor_after.Statement.{statement}
+use Rattle.services.proofs.jobs.floor_after.Tie as tie
+use Rattle.services.proofs.jobs.floor_after.Reads as reads
+use Rattle.services.proofs.jobs.floor_after.Lts as lts
+
+returns : tie.Need-returns
+returns c = search cases
+
+returns-2 : tie.Need-returns-2
+returns-2 c = search cases
+
+pub floor-after-spec : {M : Type 1} → statement M
+floor-after-spec = tie.close (tie.spec returns returns-2)

@@ -1,0 +1,25 @@
+use Rattle.plan.specs.Stores.{leftAt}
+use borrow.Author.Needs.{needs}
+use Rattle.services.proofs.jobs.going.Statement.{statement}
+use Rattle.services.proofs.jobs.going.Tie as tie
+use Rattle.services.proofs.jobs.going.Reads as reads
+use Rattle.services.proofs.jobs.going.Lts as lts
+use Rattle.plan.proofs.left.Reads as left-reads
+use Rattle.services.proofs.jobs.job_of.Reads as job-of-reads
+use Rattle.services.proofs.jobs.with_recorded.Reads as with-recorded-reads
+
+job-of-requires : tie.Need-job-of-requires
+job-of-requires c κs = search needs
+
+with-recorded-requires : tie.Need-with-recorded-requires
+with-recorded-requires c κs = search needs
+
+left-requires : tie.Need-left-requires
+left-requires c κs = rw (c .before .job-of .ensures) (c .before .before .pre .range)
+
+returns : tie.Need-returns
+unfolding leftAt
+returns c = rw (c .left .ensures, c .before .with-recorded .ensures, c .before .before .job-of .ensures)
+
+pub going-spec : {M : Type 1} → statement M
+going-spec = tie.close (tie.spec job-of-requires with-recorded-requires left-requires returns)

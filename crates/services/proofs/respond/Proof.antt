@@ -1,0 +1,28 @@
+use borrow.Author.Needs.{needs}
+use Rattle.services.proofs.respond.Statement.{statement}
+use Rattle.services.proofs.respond.Tie as tie
+use Rattle.services.proofs.respond.Reads as reads
+use Rattle.services.proofs.respond.Lts as lts
+use Rattle.answer.proofs.payload_of.Reads as payload-of-reads
+use Rattle.answer.proofs.status_of.Reads as status-of-reads
+use Rattle.packet.proofs.write_response.Reads as write-response-reads
+
+status-of-requires : tie.Need-status-of-requires
+status-of-requires c κs = search needs
+
+payload-of-requires : tie.Need-payload-of-requires
+payload-of-requires c κs = search needs
+
+write-response-requires : tie.Need-write-response-requires
+write-response-requires c κs = search needs
+
+same-length : tie.Need-same-length
+same-length c = search needs
+
+returns : tie.Need-returns
+returns c = rw (c .before .before .write-response .ensures .1, c .before .before .before .payload-of .ensures, c .before .before .before .before .status-of .ensures)
+
+pub respond-spec : {M : Type 1} → statement M
+respond-spec =
+    tie.close
+    (tie.spec status-of-requires payload-of-requires write-response-requires same-length returns)

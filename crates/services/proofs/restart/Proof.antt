@@ -1,0 +1,23 @@
+use Rattle.services.proofs.Laws.{first-sensible}
+use borrow.Author.Needs.{needs}
+use Rattle.services.proofs.restart.Statement.{statement}
+use Rattle.services.proofs.restart.Tie as tie
+use Rattle.services.proofs.restart.Reads as reads
+use Rattle.services.proofs.restart.Lts as lts
+use Rattle.services.proofs.first_kind.Reads as first-kind-reads
+use Rattle.services.proofs.restart_as.Reads as restart-as-reads
+
+first-kind-requires : tie.Need-first-kind-requires
+first-kind-requires c κs = search needs
+
+restart-as-requires : tie.Need-restart-as-requires
+restart-as-requires c κs = rw (c .before .first-kind .ensures) first-sensible
+
+same-length : tie.Need-same-length
+same-length c = search needs
+
+returns : tie.Need-returns
+returns c = rw (← c .before .before .before .before .first-kind .ensures) (c .before .before .restart-as .ensures)
+
+pub restart-spec : {M : Type 1} → statement M
+restart-spec = tie.close (tie.spec first-kind-requires restart-as-requires same-length returns)

@@ -1,0 +1,27 @@
+use borrow.Author.Needs.{needs}
+use Rattle.services.proofs.start.Statement.{statement}
+use Rattle.services.proofs.start.Tie as tie
+use Rattle.services.proofs.start.Reads as reads
+use Rattle.services.proofs.start.Lts as lts
+use Rattle.device.proofs.soundness.stack_runs.Reads as stack-runs-reads
+use Rattle.device.proofs.whole.lose.Reads as lose-reads
+use Rattle.packet.proofs.write_event.Reads as write-event-reads
+
+stack-runs-requires : tie.Need-stack-runs-requires
+stack-runs-requires c κs = search needs
+
+write-event-requires : tie.Need-write-event-requires
+write-event-requires c κs = search needs
+
+lose-requires : tie.Need-lose-requires
+lose-requires c κs = search needs
+
+same-length : tie.Need-same-length
+same-length c = search needs
+
+returns : tie.Need-returns
+returns c = (rw (c .lose .ensures), rw (c .before .before .before .write-event .ensures .1, c .before .before .before .before .stack-runs .ensures))
+
+pub start-spec : {M : Type 1} → statement M
+start-spec =
+    tie.close (tie.spec stack-runs-requires write-event-requires lose-requires same-length returns)

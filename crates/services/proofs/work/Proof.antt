@@ -1,0 +1,23 @@
+use Rattle.services.proofs.Laws.{first-sensible}
+use borrow.Author.Needs.{needs}
+use Rattle.services.proofs.work.Statement.{statement}
+use Rattle.services.proofs.work.Tie as tie
+use Rattle.services.proofs.work.Reads as reads
+use Rattle.services.proofs.work.Lts as lts
+use Rattle.services.proofs.first_kind.Reads as first-kind-reads
+use Rattle.services.proofs.work_as.Reads as work-as-reads
+
+first-kind-requires : tie.Need-first-kind-requires
+first-kind-requires c κs = search needs
+
+work-as-requires : tie.Need-work-as-requires
+work-as-requires c κs = rw (c .before .first-kind .ensures) first-sensible
+
+same-length : tie.Need-same-length
+same-length c = search needs
+
+returns : tie.Need-returns
+returns c = rw (← c .before .before .before .before .first-kind .ensures) (c .before .before .work-as .ensures)
+
+pub work-spec : {M : Type 1} → statement M
+work-spec = tie.close (tie.spec first-kind-requires work-as-requires same-length returns)

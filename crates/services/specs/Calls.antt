@@ -1,0 +1,194 @@
+-- Paper 01, "Calls refused by number" and what each call does: answer, next device, next flash and reply buffer, for all inputs.
+-- S is the size of a sector, N the number of sectors of the lent flash, `top` the first sector of FUS.
+use Prim.Native.Nat.{ℕ, _*_, _≤_}
+use mathlib.Core.Bool.{Bool, true}
+use mathlib.Core.Path.{_≡_}
+use mathlib.Core.List.{List, []}
+use lib.Dec.{leb, eqb}
+use lib.ListN.{length, drop}
+use Rattle.basics.specs.Choice.{pick}
+use Rattle.basics.specs.Words.{byteAt, zeros}
+use Rattle.packet.specs.declared.Refusal.{Refusal}
+use Rattle.packet.specs.declared.Refusal.the-variants.{UnsoundRecord, FlashLength, ReplyShort, FillerLength}
+use Rattle.packet.specs.declared.Command.{Command}
+use Rattle.packet.specs.declared.Reading.{Reading}
+use Rattle.packet.specs.declared.Reading.the-variants.{Lawful, Refused as Unlawful}
+use Rattle.packet.specs.Packets.{opcodeOf, readOf}
+use Rattle.packet.specs.Lawful.{Bytes}
+use Rattle.packet.specs.Replies.{response, event, replied}
+use Rattle.answer.specs.declared.Failure.the-variants.{NoImage}
+use Rattle.answer.specs.declared.Answer.{Answer}
+use Rattle.answer.specs.declared.Checked.{Checked}
+use Rattle.answer.specs.declared.Checked.the-variants.{Fails}
+use Rattle.answer.specs.Answers.{statusOf, payloadOf}
+use Rattle.image.specs.declared.Terms.{Terms}
+use Rattle.image.specs.Images.{checkedOf, flashAfter}
+use Rattle.plan.specs.Stores.{onward, cutShort, stored, spoilt, leftAt}
+use Rattle.device.specs.declared.Head.{Head}
+use Rattle.device.specs.declared.Step.{Step}
+use Rattle.device.specs.declared.Device.{Device}
+use Rattle.device.specs.Kind.{sectorSize, sectorCount, fusSector}
+use Rattle.device.specs.Commands.{searches, decided}
+use Rattle.device.specs.Whole.{look, carried, lost}
+use Rattle.device.specs.Sound.{stackRuns, planFor, sound}
+use Rattle.services.specs.declared.Numbers.{Numbers}
+use Rattle.services.specs.declared.Verdict.{Verdict}
+use Rattle.services.specs.declared.Verdict.the-variants.{Taken, Refused}
+use Rattle.services.specs.Jobs.{hasJob, recordedIn, progressed, nextStore}
+
+-- all that a call leaves behind: its answer, the next device, the next flash, the reply buffer (of the event, or the response)
+pub record Result : Type 0 where
+  pub verdict : Verdict
+  pub device : Device
+  pub flash : List ℕ
+  pub reply : List ℕ
+
+-- the same of restart, which has no flash
+pub record RestartResult : Type 0 where
+  pub verdict : Verdict
+  pub device : Device
+  pub reply : List ℕ
+
+-- the same of work, which has no reply buffer and answers the stores still to do
+pub record WorkResult : Type 0 where
+  pub verdict : Verdict
+  pub device : Device
+  pub flash : List ℕ
+  pub left : ℕ
+
+abbrev pub result : Verdict → Device → List ℕ → List ℕ → Result
+result v d F R = record { verdict = v; device = d; flash = F; reply = R }
+
+abbrev pub restartResult : Verdict → Device → List ℕ → RestartResult
+restartResult v d R = record { verdict = v; device = d; reply = R }
+
+abbrev pub workResult : Verdict → Device → List ℕ → ℕ → WorkResult
+workResult v d F n = record { verdict = v; device = d; flash = F; left = n }
+
+-- the numbers of the first kind of device, and what any kind's numbers are
+abbrev pub first : Numbers
+first = record { size = sectorSize; count = sectorCount; top = fusSector }
+
+pub record Sensible (k : Numbers) : Type 0 where
+  pub header : 84 ≤ k .size
+  pub small : k .size ≤ 65536
+  pub below : k .top ≤ k .count
+  pub few : k .count ≤ 65536
+
+-- a refusal returns its number and the given device, leaves flash untouched and fills the reply buffer, whatever its length, with zeros
+abbrev pub refused : Refusal → Device → List ℕ → List ℕ → Result
+refused r d F R = result (Refused r) d F (zeros (length R))
+
+-- the lent flash has N sectors of S bytes
+abbrev pub lent : Numbers → List ℕ → Bool
+lent k F = eqb (length F) (k .count * k .size)
+
+-- HANDLE A PACKET
+-- what the device asks of an image
+abbrev pub termsOf : Head → Terms
+termsOf h = record { boundary = h .boundary; auth = h .auth; rollback = h .rollback; floor = h .floor }
+
+-- the checks, where an image is looked for at all
+abbrev pub checkedFor : Numbers → Head → Command → List ℕ → List ℕ → Checked
+checkedFor k h command key F =
+    pick (searches (h .mode) command) (checkedOf (k .size) (termsOf h) key F) (Fails NoImage)
+
+-- the key bytes of a packet: behind the size, which is the payload's first byte for an authentication key and its second for a user key
+abbrev pub keyIn : Command → List ℕ → List ℕ
+keyIn command packet = pick (eqb (opcodeOf command) 0xFC56) (drop 5 packet) (drop 6 packet)
+
+-- what is decided on the lawful packet: by the payload's first byte, a type or an index, and the number of key bytes
+abbrev pub stepFor : Device → Command → List ℕ → Checked → Step
+stepFor d command packet checked =
+    decided (d .head) (look (d .kinds) (d .locks) (byteAt packet 4)) checked command (byteAt packet 4) (length (keyIn command packet))
+
+abbrev pub replyTo : Command → Answer → ℕ → List ℕ
+replyTo command answer n = replied 8 n (response command (statusOf answer) (payloadOf answer))
+
+abbrev pub answeredBy : Numbers → Device → List ℕ → List ℕ → List ℕ → Command → Checked → Result
+answeredBy k d F packet R command checked =
+    result Taken (carried (stepFor d command packet checked) (keyIn command packet) d)
+    (flashAfter (k .size) checked F)
+    (replyTo command (stepFor d command packet checked .answer) (length R))
+
+abbrev pub answered : Numbers → Device → List ℕ → List ℕ → List ℕ → Command → Result
+answered k d F packet R command = answeredBy k d F packet R command (checkedFor k (d .head) command (d .key) F)
+
+-- a lawful packet on a sound record and fitting buffers
+pub record Taking (k : Numbers) (d : Device) (F packet R : List ℕ) (command : Command) : Type 0 where
+  pub record-sound : sound (k .size) (k .top) d ≡ true
+  pub lent-flash : length F ≡ k .count * k .size
+  pub fitting : 8 ≤ length R
+  pub bytes : Bytes packet
+  pub payload : ℕ
+  pub reading : readOf packet ≡ Lawful command payload
+
+abbrev pub byReading : Reading → Numbers → Device → List ℕ → List ℕ → List ℕ → Result
+byReading (Lawful command n) k d F packet R = answered k d F packet R command
+byReading (Unlawful r) k d F packet R = refused r d F R
+
+unfoldable pub handled : Numbers → Device → List ℕ → List ℕ → List ℕ → Result
+handled k d F packet R =
+    pick (sound (k .size) (k .top) d)
+    (pick (lent k F)
+    (pick (leb 8 (length R)) (byReading (readOf packet) k d F packet R) (refused ReplyShort d F R))
+    (refused FlashLength d F R))
+    (refused UnsoundRecord d F R)
+
+-- RESTART: the lost things are lost, and the event tells which program runs; a job pending at start means FUS runs
+abbrev pub eventFor : Device → ℕ → List ℕ
+eventFor d n = replied 6 n (event (stackRuns (d .head .mode)))
+
+unfoldable pub restarted : Numbers → Device → List ℕ → RestartResult
+restarted k d R =
+    pick (sound (k .size) (k .top) d)
+    (pick (leb 6 (length R)) (restartResult Taken (lost d) (eventFor d (length R)))
+    (restartResult (Refused ReplyShort) d (zeros (length R))))
+    (restartResult (Refused UnsoundRecord) d (zeros (length R)))
+
+-- a sound record with a job, and the lent flash
+pub record Busy (k : Numbers) (d : Device) (F : List ℕ) : Type 0 where
+  pub record-sound : sound (k .size) (k .top) d ≡ true
+  pub lent-flash : length F ≡ k .count * k .size
+  pub job : hasJob (d .head .mode) ≡ true
+
+-- WORK: one store, and the stores still to do after it. With no job it answers 0 and does nothing
+abbrev pub workedOn : Numbers → Device → List ℕ → WorkResult
+workedOn k d F =
+    workResult Taken
+    (progressed (k .size) (k .top) d (onward (nextStore (k .size) (k .top) (d .head)) (recordedIn (d .head .mode)) (d .head .made)))
+    (stored (k .size) (nextStore (k .size) (k .top) (d .head)) F)
+    (leftAt (planFor (k .size) (k .top) (d .head)) (onward (nextStore (k .size) (k .top) (d .head)) (recordedIn (d .head .mode)) (d .head .made)))
+
+abbrev pub working : Numbers → Device → List ℕ → WorkResult
+working k d F = pick (hasJob (d .head .mode)) (workedOn k d F) (workResult Taken d F 0)
+
+unfoldable pub worked : Numbers → Device → List ℕ → WorkResult
+worked k d F =
+    pick (sound (k .size) (k .top) d)
+    (pick (lent k F) (working k d F) (workResult (Refused FlashLength) d F 0))
+    (workResult (Refused UnsoundRecord) d F 0)
+
+-- CUT breaks off the next store: a sector store leaves the filler x in that sector; a record store goes through or not, as the caller
+-- says. A restart follows. With no job, it is a restart only
+abbrev pub restarting : Device → List ℕ → List ℕ → Result
+restarting d F R = result Taken (lost d) F (eventFor d (length R))
+
+abbrev pub cutIn : Numbers → Device → List ℕ → List ℕ → Bool → List ℕ → Result
+cutIn k d F x through R =
+    restarting
+    (progressed (k .size) (k .top) d (cutShort (nextStore (k .size) (k .top) (d .head)) through (recordedIn (d .head .mode))))
+    (spoilt (k .size) (nextStore (k .size) (k .top) (d .head)) x F) R
+
+abbrev pub cutting : Numbers → Device → List ℕ → List ℕ → Bool → List ℕ → Result
+cutting k d F x through R = pick (hasJob (d .head .mode)) (cutIn k d F x through R) (restarting d F R)
+
+unfoldable pub cutOff : Numbers → Device → List ℕ → List ℕ → Bool → List ℕ → Result
+cutOff k d F x through R =
+    pick (sound (k .size) (k .top) d)
+    (pick (lent k F)
+    (pick (leb 6 (length R))
+    (pick (eqb (length x) (k .size)) (cutting k d F x through R) (refused FillerLength d F R))
+    (refused ReplyShort d F R))
+    (refused FlashLength d F R))
+    (refused UnsoundRecord d F R)
