@@ -2,7 +2,7 @@
 compile() { # SOURCE OBJECT WORDS..
     source=$1 object=$2
     shift 2
-    "$tools/bin/clang" --target=x86_64-unknown-linux-gnu -std=c11 -O2 -Wall -Wextra -Werror -ffreestanding -fPIC -nostdinc \
+    "$tools/bin/clang" --target=x86_64-unknown-linux-gnu -O2 -Wall -Wextra -Werror -fPIC -nostdinc \
         -isystem tests/host/include -Iinclude -Ibench/host "$@" -c "$source" -o "$object"
 }
 

@@ -386,9 +386,10 @@ static void upgrade_cases(void) {
     CHECK(taken(0, 242, 80, &stores) == 0x02 && all(flash + 242 * SECTOR, SECTOR, 0xFF));
 }
 
-/* ---- the seven checks, each failing alone and with the next, and what they erase */
+/* ---- the seven checks, and what they erase */
 
-static uint8_t judged(uint8_t wanted, bool erases) {
+/* is FW_UPGRADE answered with this E (0: taken), and nothing changed in flash but, if it erases, sector 50? */
+static bool judged(uint8_t wanted, bool erases) {
     static uint8_t *before;
     if (before == NULL)
         before = pages(FLASH);
@@ -401,7 +402,7 @@ static uint8_t judged(uint8_t wanted, bool erases) {
 }
 
 /* an image at sector 50 with a byte of its header changed, or (where at is 0) with a wrong sum */
-static uint8_t judged_with(size_t at, uint8_t value, uint32_t size, uint8_t wanted, bool erases) {
+static bool judged_with(size_t at, uint8_t value, uint32_t size, uint8_t wanted, bool erases) {
     uint8_t *image = flash + 50 * SECTOR;
     uint8_t kept[RECORD];
     memcpy(kept, record, RECORD);
@@ -411,7 +412,7 @@ static uint8_t judged_with(size_t at, uint8_t value, uint32_t size, uint8_t want
         image[at] = value;
     else
         image[16]++;
-    uint8_t good = judged(wanted, erases);
+    bool good = judged(wanted, erases);
     memcpy(record, kept, RECORD);
     return good;
 }
@@ -435,11 +436,33 @@ static void check_cases(void) {
     CHECK(judged_with(0, 0, 84, 0x02, true));
     CHECK(judged_with(11, 0xFF, 9000, 0x04, false)); /* a size near 2^32 */
     CHECK(judged_with(11, 0x0F, 9000, 0x04, false));
+    CHECK(judged_with(5, 1, 0xFFFFFFFC, 0x04, false)); /* its sectors do not wrap to none */
     CHECK(update_auth(key) == 0);
     CHECK(judged_with(7, 0, 9000, 0x03, false) && judged_with(7, 1, 9000, 0x03, false));
     memset(flash, 0xFF, FLASH), put_image(flash, 50, 9000, 9);
     memcpy(flash + 50 * SECTOR + 20, key, 64), flash[50 * SECTOR + 7] = 1;
     CHECK(judged(0, false));
+}
+
+/* the order of the checks: all of them fail, then the first is mended, and so on; p is 50 */
+static void order_cases(void) {
+    uint8_t key[64], *image = flash + 50 * SECTOR;
+    random_bytes(key, 64);
+    fresh_with_stack(3, 9);
+    CHECK(command(0x5F) == 0 && update_auth(key) == 0 && judged(0x01, false));
+    for (int mended = 1; mended <= 7; mended++) {
+        uint32_t size = mended >= 3 ? 9000 : 200 * SECTOR;
+        put_image(flash, 50, size, mended >= 7 ? 9 : 8);
+        image[5] = mended >= 2 ? 1 : 2;
+        image[6] = mended >= 5;
+        image[7] = mended >= 6;
+        memcpy(image + 20, key, 64);
+        image[16] += mended < 4;
+        CHECK(judged((const uint8_t[]){0x02, 0x04, 0x02, 0x03, 0x03, 0x11, 0}[mended - 1], mended == 1 || mended == 3));
+    }
+}
+
+static void rollback_cases(void) {
     fresh_with_stack(3, 9);
     CHECK(command(0x5F) == 0 && word(record + 38) == 9);
     CHECK(judged_with(12, 8, 9000, 0x11, false) && judged_with(12, 9, 9000, 0, false) && judged_with(12, 10, 9000, 0, false));
@@ -448,9 +471,16 @@ static void check_cases(void) {
     put_image(flash, 50, 9000, 12), CHECK(command(0x54) == 0);
     finish();
     CHECK(word(record + 38) == 12 && record[1] == 0);
-    memset(flash, 0xFF, FLASH);
-    put_image(flash, 50, 9000, 9), put_image(flash, 51, 90, 9); /* the higher sector is found first */
-    CHECK(state() == 0xFFFE && state() == 0xFFFE && command(0x54) == 1 && state() == 0xFF02 && all(flash + 51 * SECTOR, SECTOR, 0xFF));
+    CHECK(state() == 0xFFFE && state() == 0xFFFE && command(0x55) == 0 && finish() == 7);
+    CHECK(word(record + 10) == 0xFFFFFFFF && command(0x5F) == 0 && word(record + 38) == 12); /* once on, the floor stays */
+}
+
+/* two images: the higher one is found first */
+static void search_cases(void) {
+    fresh_with_stack(0, 0);
+    put_image(flash, 40, 9000, 9), put_image(flash, 51, 90, 9);
+    CHECK(command(0x54) == 1 && state() == 0xFF02 && all(flash + 51 * SECTOR, SECTOR, 0xFF));
+    CHECK(command(0x54) == 0 && word(record + 22) == 40);
 }
 
 /* ---- keys and the pair of state requests */
@@ -519,6 +549,9 @@ int main(int count, char **words) {
     packet_cases();
     upgrade_cases();
     check_cases();
+    order_cases();
+    rollback_cases();
+    search_cases();
     key_cases();
     pair_cases();
     job_cases();

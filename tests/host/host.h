@@ -7,7 +7,6 @@
 #include <string.h>
 
 int printf(const char *, ...);
-int fflush(void *);
 int atoi(const char *);
 void exit(int);
 void *mmap(void *, size_t, int, int, int, long);

@@ -117,7 +117,7 @@ static void to_the_end(void) {
         uint32_t now = work();
         CHECK(works == 0 ? now < total : now == left - 1);
         left = now, works++;
-        if (works % 16 == 3 && !ended())
+        if (works % 4 == 3 && !ended())
             CHECK(state() == 0x1000);
     }
     CHECK(works <= total && left == 0 && work() == 0);

@@ -2,3 +2,5 @@ pub mod Both
 pub mod Cases
 pub mod Room
 pub mod Under
+pub mod Still
+pub mod Demand

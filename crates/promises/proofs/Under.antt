@@ -3,6 +3,7 @@
 use Prim.Native.Nat.{ℕ, _≤_}
 use mathlib.Core.Bool.{Bool, true, false, _&&_}
 use mathlib.Core.Path.{_≡_, refl}
+use native.Mathlib.Omega.{arith}
 use borrow.Author.Tests.{le-leb}
 use Rattle.promises.proofs.Both.{both-true, and-left, and-right, last-changed}
 use Rattle.plan.specs.Stores.{going, planOf, steps, wants}
@@ -16,6 +17,9 @@ use Rattle.device.specs.Commands.{isIdle}
 use Rattle.image.specs.Images.{sizeLawful, versionLawful, roomFor}
 use Rattle.device.specs.Sound.{stackRuns, jobOf, planFor, stackSound, partsSound, errorSound, progressSound, modeSound, headSound, keysSound, sound}
 use Rattle.services.specs.Jobs.{hasJob, recordedIn, withRecorded, committed, progressed, finished}
+
+pub never : false ≡ true → ⊥
+never e = let z : _≡_ {A = ℕ} 0 1 = cc in omega arith
 
 -- the mode's job, whatever is recorded of it
 again : (k n : ℕ) (mode : Mode) → withRecorded k (withRecorded n mode) ≡ withRecorded k mode
@@ -37,14 +41,14 @@ job-same boundary k (Upgrade p size version recorded) = refl
 job-same boundary k (Delete recorded) = refl
 
 pub recorded-is : (k : ℕ) (mode : Mode) → hasJob mode ≡ true → recordedIn (withRecorded k mode) ≡ k
-recorded-is k Stack h = let z : false ≡ true = h in cc
-recorded-is k Idle h = let z : false ≡ true = h in cc
+recorded-is k Stack h = absurd (never h)
+recorded-is k Idle h = absurd (never h)
 recorded-is k (Upgrade p size version recorded) h = refl
 recorded-is k (Delete recorded) h = refl
 
 -- FUS runs while there is a job
 pub fus-runs : (mode : Mode) → hasJob mode ≡ true → stackRuns mode ≡ false
-fus-runs Stack h = let z : false ≡ true = h in cc
+fus-runs Stack h = absurd (never h)
 fus-runs Idle h = refl
 fus-runs (Upgrade p size version recorded) h = refl
 fus-runs (Delete recorded) h = refl
@@ -59,8 +63,8 @@ module _ (S top : ℕ) (e : Device) where
   -- the job's end is that of the accepted device
   ends : (k m : ℕ) (mode : Mode) (h : Head) → hasJob mode ≡ true
       → lostHead (committed S top (withRecorded k mode) (withMade m (withMode (withRecorded k mode) h))) ≡ lostHead (committed S top mode h)
-  ends k m Stack h j = let z : false ≡ true = j in cc
-  ends k m Idle h j = let z : false ≡ true = j in cc
+  ends k m Stack h j = absurd (never j)
+  ends k m Idle h j = absurd (never j)
   ends k m (Upgrade p size version recorded) h j = refl
   ends k m (Delete recorded) h j = refl
 
@@ -91,8 +95,8 @@ module _ (S top : ℕ) (e : Device) where
 
   mode-progressed : (mode : Mode) (present : Bool) (boundary made k m : ℕ) → hasJob mode ≡ true → modeSound S top mode present boundary made ≡ true
       → progressSound (planOf S top (jobOf boundary mode)) k m ≡ true → modeSound S top (withRecorded k mode) present boundary m ≡ true
-  mode-progressed Stack present boundary made k m j h p = let z : false ≡ true = j in cc
-  mode-progressed Idle present boundary made k m j h p = let z : false ≡ true = j in cc
+  mode-progressed Stack present boundary made k m j h p = absurd (never j)
+  mode-progressed Idle present boundary made k m j h p = absurd (never j)
   mode-progressed (Upgrade p size version recorded) present boundary made k m j h q =
       last-changed (sizeLawful size && versionLawful version && roomFor S p size boundary) (progressSound (planOf S top (jobOf boundary (Upgrade p size version recorded))) recorded made) _ h q
   mode-progressed (Delete recorded) present boundary made k m j h q =

@@ -10,7 +10,7 @@ use Rattle.packet.specs.declared.Command.the-variants.{GetState}
 use Rattle.packet.specs.Replies.{response, event, replied}
 use Rattle.plan.specs.declared.Job.{Job}
 use Rattle.plan.specs.Placement.{storeCount}
-use Rattle.plan.specs.Stores.{going}
+use Rattle.plan.specs.Stores.{going, left}
 use Rattle.plan.specs.Final.{finalFlash}
 use Rattle.device.specs.declared.Head.{Head}
 use Rattle.device.specs.declared.Device.{Device}
@@ -69,6 +69,10 @@ jobIn d = jobOf (d .head .boundary) (d .head .mode)
 
 abbrev pub stores : Numbers → Device → ℕ
 stores k d = storeCount (k .size) (k .top) (jobIn d)
+
+-- the stores that a device has still to do
+abbrev pub toDo : Numbers → Device → ℕ
+toDo k d = pick (hasJob (d .head .mode)) (left (planFor (k .size) (k .top) (d .head)) (recordedIn (d .head .mode)) (d .head .made)) 0
 
 -- just accepted: a sound record with a job of which nothing is done, and the lent flash
 pub record Accepted (k : Numbers) (d : Device) (F : List ℕ) : Type 0 where
