@@ -248,7 +248,7 @@ static bool agree(const struct one *c) {
 static void time_case(const struct one *c) {
     begin(c);
     timed(c, &archive, 1);
-    int times = c->again ? 5e5 / (timed(c, &plain, 3) + 1) + 1 : 1, turns = c->again ? TURNS : 4 * TURNS;
+    int times = c->again ? 1e6 / (timed(c, &plain, 3) + 1) + 1 : 1, turns = c->again ? TURNS : 4 * TURNS;
     for (int i = 0; i < ROUNDS; i++) {
         double a = 1e18, b = 1e18;
         for (int turn = 0; turn < turns; turn++) {

@@ -4,3 +4,5 @@ pub mod Room
 pub mod Under
 pub mod Still
 pub mod Demand
+pub mod Kept
+pub mod Refusals

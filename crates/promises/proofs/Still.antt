@@ -32,7 +32,7 @@ use Rattle.services.proofs.Laws.{handled-by, cut-busy}
 use Rattle.promises.proofs.Under.{fus-runs, never}
 
 -- a test that picks: what holds of both holds of the pick
-either : {A : Type 0} (Q : A → Type 0) (t : Bool) (x y : A) → Q x → Q y → Q (pick t x y)
+pub either : {A : Type 0} (Q : A → Type 0) (t : Bool) (x y : A) → Q x → Q y → Q (pick t x y)
 unfolding pick
 either Q true x y p q = p
 either Q false x y p q = q

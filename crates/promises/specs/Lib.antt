@@ -1,3 +1,4 @@
 pub mod Cases
 pub mod Image
 pub mod Demand
+pub mod Refusals

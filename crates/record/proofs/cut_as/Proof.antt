@@ -90,11 +90,7 @@ has-job-requires c κs = search needs
 
 cut-on-requires : tie.Need-cut-on-requires
 unfolding decode
-cut-on-requires c κs =
-    (
-      c .before .before .before .before .before .before .before .before .before .before .before .before .before .before .before .before .before .before .before .pre,
-      ((via-not-false _ _ (c .before .before .before .before .before .before .before .before .before .before .before .before .before .is-sound .ensures) (c .before .before .before .before .before .before .before .before .before .before .before .before .if1 .left), c .before .before .before .before .before .before .before .before .before .before .if2 .left), (rw (c .before .before .before .before .before .read-head .ensures) at (via _ _ _ (c .before .before .before .before .has-job .ensures) (c .before .before .before .if5 .taken)), c .before .before .before .before .before .before .before .if4 .left)),
-    )
+cut-on-requires c κs = (
   c .before .before .before .before .before .before .before .before .before .before .before .before .before .before .before .before .before .before .before .pre,
   ((via-not-false _ _ (c .before .before .before .before .before .before .before .before .before .before .before .before .before .is-sound .ensures) (c .before .before .before .before .before .before .before .before .before .before .before .before .if1 .left), c .before .before .before .before .before .before .before .before .before .before .if2 .left), (rw (c .before .before .before .before .before .read-head .ensures) at (via _ _ _ (c .before .before .before .before .has-job .ensures) (c .before .before .before .if5 .taken)), c .before .before .before .before .before .before .before .if4 .left)),
 )

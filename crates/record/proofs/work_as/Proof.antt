@@ -49,11 +49,7 @@ has-job-requires c κs = search needs
 
 work-on-requires : tie.Need-work-on-requires
 unfolding decode
-work-on-requires c κs =
-    (
-      c .before .before .before .before .before .before .before .before .before .before .before .before .before .pre,
-      ((via-not-false _ _ (c .before .before .before .before .before .before .before .before .before .is-sound .ensures) (c .before .before .before .before .before .before .before .before .if1 .left), c .before .before .before .before .before .before .if2 .left), rw (c .before .before .before .before .read-head .ensures) at (via _ _ _ (c .before .before .before .has-job .ensures) (c .before .before .if3 .taken))),
-    )
+work-on-requires c κs = (
   c .before .before .before .before .before .before .before .before .before .before .before .before .before .pre,
   ((via-not-false _ _ (c .before .before .before .before .before .before .before .before .before .is-sound .ensures) (c .before .before .before .before .before .before .before .before .if1 .left), c .before .before .before .before .before .before .if2 .left), rw (c .before .before .before .before .read-head .ensures) at (via _ _ _ (c .before .before .before .has-job .ensures) (c .before .before .if3 .taken))),
 )

@@ -25,7 +25,7 @@ make-requires c κs =
     let p = c .before .before .before .before .before .before .pre in
     let a = c .before .before .before .before .before .before .args in
     let doing-it = doing (a .k) (decode (a .rec .now)) (p .0) (sound-in (a .k) (a .rec .now) (p .1 .0 .0)) (p .1 .1) in
-    rw (c .before .work-turn .ensures, c .before .before .read-head .ensures) (within doing-it _ _ (p .0 .below) (p .1 .0 .1))
+    rw (c .before .work-turn .ensures, c .before .before .read-head .ensures) (within doing-it (a .k .count) (a .flash .now) (p .0 .below) (p .1 .0 .1))
 
 advance-requires : tie.Need-advance-requires
 advance-requires c κs = record-length _ _ _ (c .before .before .before .before .before .before .before .before .before .before .pre .1 .0 .0)
