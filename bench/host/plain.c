@@ -203,8 +203,10 @@ static void erase(uint8_t *flash, uint32_t t) {
 /* the first hit, or COUNT */
 static uint32_t search(const uint8_t *flash, uint32_t boundary) {
     for (uint32_t t = boundary; t-- > 0;) {
-        const uint8_t *at = flash + (size_t)t * SECTOR;
-        if (at[0] == 'B' && memcmp(at, "BNI\1\0", 5) == 0)
+        size_t i = 0;
+        while (i < 5 && flash[(size_t)t * SECTOR + i] == (uint8_t)"BNI\1\0"[i])
+            i++;
+        if (i == 5)
             return t;
     }
     return COUNT;

@@ -6,3 +6,5 @@ pub mod Still
 pub mod Demand
 pub mod Kept
 pub mod Refusals
+pub mod Begins
+pub mod Once

@@ -10,6 +10,7 @@ use borrow.Author.Tests.{leb-true, leb-false, eqb-true, eqb-false}
 use lib.Dec.{leb, eqb}
 use lib.ListN.{length}
 use Rattle.basics.specs.Choice.{pick}
+use Rattle.basics.specs.Words.{zeros}
 use Rattle.packet.specs.declared.Refusal.{Refusal}
 use Rattle.packet.specs.declared.Refusal.the-variants.{UnsoundRecord, FlashLength, ReplyShort, PacketShort, NoCommand, LengthDiffers, OpcodeUnlisted, PayloadLength, InnerSize, FillerLength}
 use Rattle.packet.specs.declared.Command.{Command}
@@ -19,11 +20,13 @@ use Rattle.packet.specs.Packets.{numberOf, readOf}
 use Rattle.packet.specs.Lawful.{Bytes, Applies, LawfulPacket, Given as GivenOf}
 use Rattle.packet.proofs.Lawful.{taken, none, least}
 use Rattle.device.specs.declared.Device.{Device}
+use Rattle.device.specs.Whole.{lost}
 use Rattle.device.specs.Sound.{sound}
 use Rattle.services.specs.declared.Numbers.{Numbers}
 use Rattle.services.specs.declared.Verdict.{Verdict}
 use Rattle.services.specs.declared.Verdict.the-variants.{Taken, Refused}
-use Rattle.services.specs.Calls.{Result, RestartResult, WorkResult, result, restartResult, workResult, refused, lent, answered, byReading, handled, eventFor, restarted, working, worked, cutting, cutOff}
+use Rattle.services.specs.Jobs.{hasJob}
+use Rattle.services.specs.Calls.{Result, RestartResult, WorkResult, result, restartResult, workResult, refused, lent, answered, byReading, handled, eventFor, restarted, workedOn, worked, restarting, cutIn, cutting, cutOff}
 use Rattle.promises.specs.Refusals.{Unsound, NotLent, Short, NoFiller, OfHandle, Rows, OfRestart, OfWork, OfCut, Given, None}
 use Rattle.promises.proofs.Under.{never}
 
@@ -159,3 +162,88 @@ module _ (k : Numbers) (d : Device) (F bytes R : List ℕ) (b : Bytes bytes) whe
 
   pub handle-lawful : sound (k .size) (k .top) d ≡ true → length F ≡ k .count * k .size → 8 ≤ length R → LawfulPacket bytes → handled k d F bytes R .verdict ≡ Taken
   handle-lawful = lawful-taken _ judged
+
+-- ---- restart, work and cut
+fourth : (unsound flash reply filler : Type 0) → (unsound → ⊥) → (flash → ⊥) → (reply → ⊥) → (q : Refusal) → numberOf q < 10 → Rows unsound flash reply filler q → ⊥
+fourth unsound flash reply filler one two three UnsoundRecord l a = one a
+fourth unsound flash reply filler one two three FlashLength l a = two a
+fourth unsound flash reply filler one two three ReplyShort l a = three a
+fourth unsound flash reply filler one two three PacketShort l a = a
+fourth unsound flash reply filler one two three NoCommand l a = a
+fourth unsound flash reply filler one two three LengthDiffers l a = a
+fourth unsound flash reply filler one two three OpcodeUnlisted l a = a
+fourth unsound flash reply filler one two three PayloadLength l a = a
+fourth unsound flash reply filler one two three InnerSize l a = a
+fourth unsound flash reply filler one two three FillerLength l a = omega arith
+
+module _ (k : Numbers) (d : Device) where
+  -- a taken call and a refused one are told apart by the verdict
+  differ : {A : Type 0} (r : Refusal) → Taken ≡ Refused r → A
+  differ r e = let z : _≡_ {A = ℕ} 0 1 = cc in absurd (omega arith)
+
+  same-refusal : (q r : Refusal) → Refused q ≡ Refused r → q ≡ r
+  same-refusal q r e = cc
+
+  pub restart-refused : (R : List ℕ) (r : Refusal) → restarted k d R .verdict ≡ Refused r → Given (OfRestart k d R) r × (restarted k d R ≡ restartResult (Refused r) d (zeros (length R)))
+  unfolding restarted pick
+  restart-refused R r = go (sound (k .size) (k .top) d) refl (leb 6 (length R)) refl
+    where
+      x : Bool → Bool → RestartResult
+      x t u = pick t (pick u (restartResult Taken (lost d) (eventFor d (length R))) (restartResult (Refused ReplyShort) d (zeros (length R)))) (restartResult (Refused UnsoundRecord) d (zeros (length R)))
+
+      told : (q : Refusal) → Given (OfRestart k d R) q → Refused q ≡ Refused r → Given (OfRestart k d R) r × (restartResult (Refused q) d (zeros (length R)) ≡ restartResult (Refused r) d (zeros (length R)))
+      told q g e = let f : q ≡ r = same-refusal q r e in (subst (Given (OfRestart k d R)) f g, ap (λ (p : Refusal). restartResult (Refused p) d (zeros (length R))) f)
+
+      go : (t : Bool) → sound (k .size) (k .top) d ≡ t → (u : Bool) → leb 6 (length R) ≡ u → x t u .verdict ≡ Refused r
+          → Given (OfRestart k d R) r × (x t u ≡ restartResult (Refused r) d (zeros (length R)))
+      go false s u h e = told UnsoundRecord (s, first (OfRestart k d R)) e
+      go true s false h e = told ReplyShort (leb-false _ _ h, third (OfRestart k d R) (sound-so k d s) (λ a. a)) e
+      go true s true h e = differ r e
+
+  pub work-refused : (F : List ℕ) (r : Refusal) → worked k d F .verdict ≡ Refused r → Given (OfWork k d F) r × (worked k d F ≡ workResult (Refused r) d F 0)
+  unfolding worked pick
+  work-refused F r = go (sound (k .size) (k .top) d) refl (lent k F) refl (hasJob (d .head .mode))
+    where
+      x : Bool → Bool → Bool → WorkResult
+      x t u v = pick t (pick u (pick v (workedOn k d F) (workResult Taken d F 0)) (workResult (Refused FlashLength) d F 0)) (workResult (Refused UnsoundRecord) d F 0)
+
+      told : (q : Refusal) → Given (OfWork k d F) q → Refused q ≡ Refused r → Given (OfWork k d F) r × (workResult (Refused q) d F 0 ≡ workResult (Refused r) d F 0)
+      told q g e = let f : q ≡ r = same-refusal q r e in (subst (Given (OfWork k d F)) f g, ap (λ (p : Refusal). workResult (Refused p) d F 0) f)
+
+      go : (t : Bool) → sound (k .size) (k .top) d ≡ t → (u : Bool) → lent k F ≡ u → (v : Bool) → x t u v .verdict ≡ Refused r
+          → Given (OfWork k d F) r × (x t u v ≡ workResult (Refused r) d F 0)
+      go false s u h v e = told UnsoundRecord (s, first (OfWork k d F)) e
+      go true s false h v e = told FlashLength (eqb-false _ _ h, second (OfWork k d F) (sound-so k d s)) e
+      go true s true h true e = differ r e
+      go true s true h false e = differ r e
+
+  module _ (F filler : List ℕ) (through : Bool) (R : List ℕ) where
+    abbrev OfThis : Refusal → Type 0
+    OfThis = OfCut k d F filler R
+
+    taken-cut : (v : Bool) (r : Refusal) → pick v (cutIn k d F filler through R) (restarting d F R) .verdict ≡ Refused r → ⊥
+    unfolding pick
+    taken-cut true r e = differ r e
+    taken-cut false r e = differ r e
+
+    cut-told : (q r : Refusal) → Given OfThis q → Refused q ≡ Refused r → Given OfThis r × (refused q d F R ≡ refused r d F R)
+    cut-told q r g e = let f : q ≡ r = same-refusal q r e in (subst (Given OfThis) f g, ap (λ (p : Refusal). refused p d F R) f)
+
+    pub cut-refused : (r : Refusal) → cutOff k d F filler through R .verdict ≡ Refused r → Given OfThis r × (cutOff k d F filler through R ≡ refused r d F R)
+    unfolding cutOff pick
+    cut-refused r =
+        go (sound (k .size) (k .top) d) refl (lent k F) refl (leb 6 (length R)) refl (eqb (length filler) (k .size)) refl
+      where
+        x : Bool → Bool → Bool → Bool → Result
+        x t u v w =
+            pick t (pick u (pick v (pick w (cutting k d F filler through R) (refused FillerLength d F R)) (refused ReplyShort d F R)) (refused FlashLength d F R)) (refused UnsoundRecord d F R)
+
+        go : (t : Bool) → sound (k .size) (k .top) d ≡ t → (u : Bool) → lent k F ≡ u → (v : Bool) → leb 6 (length R) ≡ v → (w : Bool) → eqb (length filler) (k .size) ≡ w
+            → x t u v w .verdict ≡ Refused r → Given OfThis r × (x t u v w ≡ refused r d F R)
+        go false s u l v h w f e = cut-told UnsoundRecord r (s, first OfThis) e
+        go true s false l v h w f e = cut-told FlashLength r (eqb-false _ _ l, second OfThis (sound-so k d s)) e
+        go true s true l false h w f e = cut-told ReplyShort r (leb-false _ _ h, third OfThis (sound-so k d s) (λ a. a (eqb-true _ _ l))) e
+        go true s true l true h false f e =
+            cut-told FillerLength r
+            (eqb-false _ _ f, fourth (Unsound k d) (NotLent k F) (Short 6 R) (NoFiller k filler) (sound-so k d s) (λ a. a (eqb-true _ _ l)) (λ a. let g : 6 ≤ length R = leb-true _ _ h in omega arith)) e
+        go true s true l true h true f e = absurd (taken-cut (hasJob (d .head .mode)) r e)

@@ -1,7 +1,7 @@
 -- Stores into a record's bytes are changes of the device that they are.
 use Prim.Native.Nat.{ℕ, zero, suc, _+_, _*_, _≤_}
 use mathlib.Core.Path.{_≡_, refl, ap, _∙_}
-use mathlib.Core.Bool.{true, _&&_}
+use mathlib.Core.Bool.{true}
 use mathlib.Core.List.{List, [], _∷_, _++_, append-assoc, append-nil}
 use native.Mathlib.Omega.{arith}
 use borrow.Author.Tests.{eqb-true}
@@ -10,11 +10,10 @@ use lib.ListN.{length, take, drop, length-take, length-drop, length-append, leng
 use lib.Seq.{take-at, drop-at, length-take-le, drop-drop, take-all, take-add, drop-append-le, set-out}
 use Rattle.basics.specs.Words.{putAt, zeros}
 use Rattle.device.specs.declared.Head.{Head}
-use Rattle.device.specs.declared.Step.{Step}
 use Rattle.device.specs.declared.Effect.{Effect}
 use Rattle.device.specs.declared.Effect.the-variants.{Keep, Drop, Lock, Put, Auth}
 use Rattle.device.specs.Kind.{freshHead, freshDevice}
-use Rattle.device.specs.Whole.{withHead, withLocks, withKey, putKey, fits, apply, carried}
+use Rattle.device.specs.Whole.{withHead, withLocks, withKey, putKey, fits, apply}
 use Rattle.device.specs.Sound.{sound}
 use Rattle.device.proofs.Laws.{and-left}
 use Rattle.record.specs.Layout.{recordLength, locksAt, authAt, kindsAt, sizesAt, keysAt, part, locksIn, authIn, kindsIn, sizesIn, keysIn, headBytes, encode, decode, isHead, isRecord, soundRecord, keyPut, applied}
@@ -140,11 +139,6 @@ stored-key l r1 r2 x1 x2 x3 key i kind e f1 f2 e1 e2 e3 =
     let z : drop 4444 (drop keysAt l) ≡ [] = drop-of-length-le (drop keysAt l) {i = 4444} (omega (arith, length-drop keysAt l)) in
     let g3 : x3 ≡ putAt (keysIn l) (i * 44) key = rw (e3, p2) in
     rw (t2, p2, z, append-nil x3, append-assoc (take kindsAt l ++ x1) x2 x3, append-assoc (take kindsAt l) x1 (x2 ++ x3), e1, g2, g3)
-
--- a step carried out on the bytes
-pub carried-in : (s : Step) (key l : List ℕ) → length l ≡ recordLength → fits (s .effect) (length key) ≡ true
-    → putAt (applied (s .effect) key l) 0 (headBytes (s .head)) ≡ encode (carried s key (decode l))
-carried-in s key l n f = put-applied (s .effect) key (s .head) l n f
 
 -- a head over zeros is a device with nothing in its arrays
 part-zeros : (at n m : ℕ) → at + n ≤ m → part at n (zeros m) ≡ zeros n

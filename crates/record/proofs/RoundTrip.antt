@@ -13,12 +13,11 @@ use lib.Seq.{take-at, take-all, drop-append-add, drop-cons}
 use Rattle.basics.specs.Choice.{pick}
 use Rattle.basics.specs.Words.{byteAt, wordAt, joined}
 use Rattle.device.specs.declared.Device.{Device}
-use Rattle.device.specs.declared.Head.{Head}
 use Rattle.device.specs.declared.Mode.{Mode}
 use Rattle.device.specs.declared.Mode.the-variants.{Stack, Idle, Upgrade, Delete}
 use Rattle.device.specs.Whole.{Shaped}
 use Rattle.device.proofs.Laws.{and-left, and-right}
-use Rattle.record.specs.Layout.{recordLength, locksAt, authAt, kindsAt, sizesAt, keysAt, flag, tagOf, pOf, sizeOf, versionOf, recordedOf, headBytes, encode, Word, Bounded, modeOf, headIn, locksIn, authIn, kindsIn, sizesIn, keysIn, decode, Bytes, isHead, isRecord}
+use Rattle.record.specs.Layout.{recordLength, locksAt, flag, tagOf, pOf, sizeOf, versionOf, recordedOf, headBytes, encode, Word, Bounded, modeOf, headIn, locksIn, authIn, kindsIn, sizesIn, keysIn, decode, Bytes, isHead, isRecord}
 use Rattle.record.proofs.Laws.{after-head, head-length}
 
 -- A DEVICE, ENCODED AND DECODED
@@ -261,7 +260,7 @@ module _ (l : List ℕ) (b : Bytes l) where
   word-back : (k : ℕ) → Four (wordAt l k) (byteAt l k) (byteAt l (k + 1)) (byteAt l (k + 2)) (byteAt l (k + 3))
   word-back k = reword (byteAt l k) (byteAt l (k + 1)) (byteAt l (k + 2)) (byteAt l (k + 3)) (b k) (b (k + 1)) (b (k + 2)) (b (k + 3))
 
-  head-again : isHead l ≡ true → headBytes (headIn l) ≡ listed 42 0 l
+  head-again : isHead l ≡ true → headBytes (headIn l) ≡ listed locksAt 0 l
   unfolding isHead headBytes headIn listed
   head-again e =
       let t =
@@ -319,5 +318,5 @@ module _ (l : List ℕ) (b : Bytes l) where
   unfolding encode decode
   encode-decode e =
       let n : length l ≡ recordLength = eqb-true (length l) recordLength (and-left (eqb (length l) recordLength) (isHead l) e) in
-      let t : take 42 l ≡ listed 42 0 l = take-listed 42 0 l (omega arith) in
-      rw (head-again (and-right (eqb (length l) recordLength) (isHead l) e), ← t, after-head l n) (take-append-drop 42 l)
+      let t : take locksAt l ≡ listed locksAt 0 l = take-listed locksAt 0 l (omega arith) in
+      rw (head-again (and-right (eqb (length l) recordLength) (isHead l) e), ← t, after-head l n) (take-append-drop locksAt l)

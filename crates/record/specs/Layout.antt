@@ -2,7 +2,7 @@
 -- bytes have their one home in `headIn`, `modeIn` and `isHead`, those of the arrays in the names here.
 use Prim.Native.Nat.{ℕ, _*_, _<_}
 use mathlib.Core.Bool.{Bool, true, false, _&&_, _||_}
-use mathlib.Core.List.{List, [], _∷_, _++_}
+use mathlib.Core.List.{List, _∷_, _++_}
 use lib.Dec.{leb, eqb}
 use lib.ListN.{length, take, drop, set}
 use Rattle.basics.specs.Choice.{pick}

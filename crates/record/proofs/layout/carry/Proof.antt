@@ -1,4 +1,4 @@
-use Rattle.record.proofs.Laws.{carried-in}
+use Rattle.record.proofs.Laws.{put-applied}
 use borrow.Author.Needs.{needs}
 use Rattle.record.proofs.layout.carry.Statement.{statement}
 use Rattle.record.proofs.layout.carry.Tie as tie
@@ -15,7 +15,7 @@ same-length c = search needs
 returns : tie.Need-returns
 returns c =
     let st = c .before .before .before .before .before .before .before .before .before .before in
-    rw (c .before .before .write-head .ensures, c .before .before .before .before .before .before .apply .ensures) (carried-in (st .args .step) (st .args .key .now) (st .args .rec .now) (st .pre .0) (st .pre .1))
+    rw (c .before .before .write-head .ensures, c .before .before .before .before .before .before .apply .ensures) (put-applied (st .args .step .effect) (st .args .key .now) (st .args .step .head) (st .args .rec .now) (st .pre .0) (st .pre .1))
 
 pub carry-spec : {M : Type 1} → statement M
 carry-spec = tie.close (tie.spec apply-requires write-head-requires same-length returns)

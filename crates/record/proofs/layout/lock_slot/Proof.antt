@@ -2,6 +2,7 @@ use Prim.Native.Nat.{_≤_}
 use mathlib.Core.Path.{_≡_, sym}
 use native.Mathlib.Omega.{arith}
 use lib.ListN.{length}
+use Rattle.record.specs.Layout.{recordLength}
 use Rattle.record.proofs.Laws.{no-lock, lock-length}
 use borrow.Author.Needs.{needs}
 use Rattle.record.proofs.layout.lock_slot.Statement.{statement}
@@ -9,7 +10,7 @@ use Rattle.record.proofs.layout.lock_slot.Tie as tie
 
 returns : tie.Need-returns
 returns c =
-    let n : length (c .before .before .args .rec .now) ≡ 4853 = c .before .before .pre in
+    let n : length (c .before .before .args .rec .now) ≡ recordLength = c .before .before .pre in
     let g : 101 ≤ c .before .before .args .slot = omega arith in
     sym (no-lock (c .before .before .args .rec .now) n (c .before .before .args .slot) g)
 
