@@ -206,7 +206,7 @@ class Run:
         """Another device, now and then with many keys."""
         self.pair.fresh(self.rng.choice([0, 1, model.RECORD - 1, model.RECORD + 1]))
         self.pair.fresh()
-        for _ in range(self.rng.choice([0, 0, 0, 5, 60, 130])):
+        for _ in range(self.rng.choice([0, 0, 0, 5, 60, 220])):
             self.pair.handle(lawful(self.rng, 0xFC58))
 
     def step(self):

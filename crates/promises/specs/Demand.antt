@@ -1,6 +1,6 @@
 -- DEMAND 3. Once an upgrade or delete is accepted, power may be cut during any store, any number of times, with restarts and any packets
 -- between. What is assumed of the world is what an event can be: a call, with any arguments; nobody else changes flash or device.
-use Prim.Native.Nat.{ℕ, zero, suc, _+_, _*_, _≤_}
+use Prim.Native.Nat.{ℕ, suc, _*_, _≤_}
 use mathlib.Core.Bool.{Bool, true, false}
 use mathlib.Core.Path.{_≡_}
 use mathlib.Core.List.{List, [], _∷_}

@@ -16,8 +16,9 @@ use Rattle.device.specs.declared.Device.{Device}
 use Rattle.device.specs.declared.Mode.{Mode}
 use Rattle.device.specs.declared.Mode.the-variants.{Stack, Idle, Upgrade, Delete}
 use Rattle.device.specs.Whole.{Shaped}
+use Rattle.device.specs.Sound.{sound}
 use Rattle.device.proofs.Laws.{and-left, and-right}
-use Rattle.record.specs.Layout.{recordLength, locksAt, flag, tagOf, pOf, sizeOf, versionOf, recordedOf, headBytes, encode, Word, Bounded, modeOf, headIn, locksIn, authIn, kindsIn, sizesIn, keysIn, decode, Bytes, isHead, isRecord}
+use Rattle.record.specs.Layout.{recordLength, locksAt, flag, tagOf, pOf, sizeOf, versionOf, recordedOf, headBytes, encode, Word, Bounded, modeOf, headIn, locksIn, authIn, kindsIn, sizesIn, keysIn, decode, Bytes, isHead, isRecord, soundRecord}
 use Rattle.record.proofs.Laws.{after-head, head-length}
 
 -- A DEVICE, ENCODED AND DECODED
@@ -151,6 +152,11 @@ module _ (d : Device) (s : Shaped d) (w : Bounded (d .head)) where
   -- and its bytes are a record's
   pub encode-record : isRecord (encode d) ≡ true
   encode-record = rw (eq-eqb (length (encode d)) recordLength encode-length, head-passes)
+
+  -- a sound record's, where the device is sound
+  pub encode-sound : (S top : ℕ) → sound S top d ≡ true → soundRecord S top (encode d) ≡ true
+  unfolding soundRecord
+  encode-sound S top e = rw (encode-record, decode-encode) e
 
 -- A RECORD'S BYTES, DECODED AND ENCODED
 -- the n elements from k on
