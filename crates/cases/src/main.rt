@@ -16,6 +16,11 @@ fn flash() -> [u8; 999424] {
     [0xFF; 999424]
 }
 
+// What a cut leaves in a sector.
+fn filler() -> [u8; 4096] {
+    [0x5A; 4096]
+}
+
 fn say(text: &[u8]) {
     io::write_all(STDOUT_FILENO, text);
 }
@@ -79,15 +84,17 @@ fn end(text: &[u8]) {
     say(b"\n");
 }
 
-// A sum in which each byte counts by its place.
+// A sum of sums, in which each byte counts by its place.
 fn sum(bytes: &[u8]) -> u64 {
-    let mut total = 0;
+    let mut low = 0;
+    let mut high = 0;
     let mut i = 0;
     while i < bytes.len() {
-        total = std::num::wrapping_add_u64(total, (i % 65521) as u64 * bytes[i] as u64);
+        low = std::num::wrapping_add_u64(low, bytes[i] as u64);
+        high = std::num::wrapping_add_u64(high, low);
         i += 1;
     }
-    total
+    high
 }
 
 // How many bytes of the sector are not 0xFF.
@@ -211,29 +218,12 @@ fn damaged(d: Device, packet: &[u8], text: &[u8]) -> Device {
 // The same with a buffer of another length, or an unsound record.
 fn misfits(d: Device) {
     let mut flash = flash();
+    let mut short = [0xFF; 16];
+    let mut seven = *b"\x11\x0E\x05\xFF\x52\xFC\xFF";
     let mut reply = *b"\x11\x0E\x05\xFF\x52\xFC\xFF\xFE\xEE\xEE\xEE\xEE";
-    ask(
-        d,
-        &mut flash[1..],
-        &GET_STATE,
-        &mut reply,
-        b"flash a byte short",
-    );
-    let mut reply = *b"\x11\x0E\x05\xFF\x52\xFC\xFF\xFE\xEE\xEE\xEE\xEE";
-    ask(
-        d,
-        &mut flash,
-        &GET_STATE,
-        &mut reply[..7],
-        b"reply of 7 bytes",
-    );
-    ask(
-        unsound(),
-        &mut flash,
-        &GET_STATE,
-        &mut reply,
-        b"unsound record",
-    );
+    ask(d, &mut short, &GET_STATE, &mut reply, b"flash of 16 bytes");
+    ask(d, &mut flash, &GET_STATE, &mut seven, b"reply of 7 bytes");
+    damaged(unsound(), &GET_STATE, b"unsound record");
 }
 
 // The mailbox incident, between the two state requests to a running stack.
@@ -254,22 +244,23 @@ fn incident() {
 // Every refusal of handle: all faults at once, then one after the other mended.
 fn handle_refuses() {
     say(b"handle\n");
-    let mut flash = flash();
-    let mut reply = [0xEE; 8];
-    let bad = &mut flash[1..];
-    ask(unsound(), bad, b"", &mut reply[..7], b"all faults");
     let d = Device::fresh();
-    ask(d, bad, b"", &mut reply[..7], b"the record mended");
-    let d = damaged(d, b"\x11\x53\xFC", b"flash and reply mended");
-    let d = damaged(d, b"\x11\x53\xFC\x01", b"4 bytes");
-    let d = damaged(d, b"\x10\x53\xFC\x01", b"first byte 10");
-    let d = damaged(d, b"\x10\x53\xFC\x01\x01", b"the length");
-    let d = damaged(d, b"\x10\x58\xFC\x01\x01", b"the opcode");
-    let d = damaged(d, b"\x10\x58\xFC\x02\x01\x01", b"the payload's length");
+    let mut flash = flash();
+    let mut short = [0xFF; 16];
+    let mut seven = [0xEE; 7];
+    ask(unsound(), &mut short, b"", &mut seven, b"all faults");
+    ask(d, &mut short, b"", &mut seven, b"the record mended");
+    ask(d, &mut flash, b"", &mut seven, b"flash");
+    damaged(d, b"\x11\x53\xFC", b"the reply buffer");
+    damaged(d, b"\x11\x53\xFC\x01", b"4 bytes");
+    damaged(d, b"\x10\x53\xFC\x01", b"the first byte");
+    damaged(d, b"\x10\x53\xFC\x01\x01", b"the length");
+    damaged(d, b"\x10\x58\xFC\x01\x01", b"the opcode");
+    damaged(d, b"\x10\x58\xFC\x02\x01\x01", b"the payload's length");
     damaged(
         d,
         b"\x10\x58\xFC\x02\x01\x00",
-        b"the inner size: key of 0 bytes",
+        b"N, of a key with no byte: E FF",
     );
 }
 
@@ -302,49 +293,64 @@ fn work(d: Device, flash: &mut [u8], text: &[u8]) {
     end(text);
 }
 
-fn others_refuse() {
-    let mut flash = flash();
-    let mut event = [0xEE; 8];
+fn restart_and_work_refuse() {
     let d = with_stack(Mode::Idle);
+    let mut flash = flash();
+    let mut short = [0xFF; 16];
+    let mut five = [0xEE; 5];
+    let mut event = [0xEE; 8];
     say(b"restart\n");
-    restart(unsound(), &mut event[..5], b"all faults");
-    restart(d, &mut event[..5], b"the record mended");
+    restart(unsound(), &mut five, b"all faults");
+    restart(d, &mut five, b"the record mended");
     restart(d, &mut event, b"the event buffer");
     restart(with_stack(Mode::Stack), &mut event, b"the stack runs");
     say(b"work\n");
-    work(unsound(), &mut flash[1..], b"all faults");
-    work(d, &mut flash[1..], b"the record mended");
+    work(unsound(), &mut short, b"all faults");
+    work(d, &mut short, b"the record mended");
     work(d, &mut flash, b"flash: no job");
+}
+
+fn cut_refuses() {
+    let d = with_stack(Mode::Idle);
+    let mut flash = flash();
+    let mut short = [0xFF; 16];
+    let mut five = [0xEE; 5];
+    let mut event = [0xEE; 8];
+    let filler = filler();
     say(b"cut\n");
-    let filler = [0x5A; 4096];
-    cut(
-        unsound(),
-        &mut flash[1..],
-        &filler[1..],
-        true,
-        &mut event[..5],
-    );
+    cut(unsound(), &mut short, b"", true, &mut five);
     end(b"all faults");
-    cut(d, &mut flash[1..], &filler[1..], true, &mut event[..5]);
+    cut(d, &mut short, b"", true, &mut five);
     end(b"the record mended");
-    cut(d, &mut flash, &filler[1..], true, &mut event[..5]);
+    cut(d, &mut flash, b"", true, &mut five);
     end(b"flash");
-    cut(d, &mut flash, &filler[1..], true, &mut event);
+    cut(d, &mut flash, b"", true, &mut event);
     end(b"the event buffer");
     cut(d, &mut flash, &filler, true, &mut event);
     end(b"the filler: no job, a restart only");
 }
 
-// An image of 4,100 bytes at 237 with something behind it, the user's own bytes in 236 and 239, an old stack in 240 to 243.
-fn lay_out(flash: &mut [u8]) {
+// An image of 4,100 bytes at 237 with something behind it.
+fn put_body(flash: &mut [u8]) {
     put_image(flash, 237, 4100, b"\x19\xFC\xFF\xFF");
     put(flash, 237 * 4096 + 84, b"\x01\x00\x00\x00");
     put(flash, 238 * 4096, b"\x02\x00\x00\x00behind");
+}
+
+// An old stack in 240 to 243.
+fn put_stack(flash: &mut [u8]) {
+    put(flash, 240 * 4096, b"old");
+    put(flash, 241 * 4096, b"old");
+    put(flash, 242 * 4096, b"old");
+    put(flash, 243 * 4096, b"old");
+}
+
+// Both, and the user's own bytes in 236 and 239.
+fn lay_out(flash: &mut [u8]) {
+    put_body(flash);
+    put_stack(flash);
     put(flash, 236 * 4096, b"mine");
     put(flash, 239 * 4096 + 4092, b"mine");
-    for sector in 240..244u32 {
-        put(flash, sector * 4096, b"old");
-    }
 }
 
 // A job played to its end; the sum of the flash at its end.
@@ -369,7 +375,8 @@ fn cut_upgrade(store: usize, through: bool, good: u64) {
     lay_out(&mut flash);
     let done = services::handle(with_stack(Mode::Idle), &mut flash, &UPGRADE, &mut reply);
     let d = play(done.device, &mut flash, store, false);
-    let d = cut(d, &mut flash, &[0x5A; 4096], through, &mut reply);
+    let filler = filler();
+    let d = cut(d, &mut flash, &filler, through, &mut reply);
     let next = services::work(d, &mut flash);
     say(b", then ");
     say_number(next.left);
@@ -387,6 +394,14 @@ fn cut_upgrade(store: usize, through: bool, good: u64) {
     end(b"not gone through");
 }
 
+// A cut at every store.
+fn cuts(good: u64) {
+    for store in 0..15 {
+        cut_upgrade(store, false, good);
+        cut_upgrade(store, true, good);
+    }
+}
+
 fn main() {
     say(b"An image on a fresh device\n");
     upgrade(242, 84, b"size 84, p = 242");
@@ -394,12 +409,9 @@ fn main() {
     upgrade(242, 80, b"size 80: E 02, erased");
     incident();
     handle_refuses();
-    others_refuse();
+    restart_and_work_refuse();
+    cut_refuses();
     say(b"Jobs\n");
     job(&DELETE, 9, b"DELETE");
-    let good = job(&UPGRADE, 15, b"UPGRADE");
-    for store in 0..15 {
-        cut_upgrade(store, false, good);
-        cut_upgrade(store, true, good);
-    }
+    cuts(job(&UPGRADE, 15, b"UPGRADE"));
 }

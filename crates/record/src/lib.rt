@@ -1,4 +1,4 @@
-// The calls on the record's bytes, in place: the same outcome as the calls by value on the device that they are. No array is decoded.
+// The calls on the record's bytes, in place: the same outcome as the calls by value on the device that they are.
 pub mod layout;
 
 use answer::Checked;
@@ -31,6 +31,13 @@ ghost use Rattle.record.specs.InPlace.{placed, restartPlaced, workPlaced
 pub struct WorkVerdict {
     pub verdict: Verdict,
     pub left: usize,
+}
+
+// How many bytes a record has.
+pub fn record_bytes() -> usize
+    ensures { λ r. ⌜ r ≡ recordLength ⌝ }
+{
+    layout::LENGTH
 }
 
 // A refused call fills its reply buffer with zeros.

@@ -101,7 +101,7 @@ pub fn key_in<'a>(command: Command, packet: &'a [u8]) -> &'a [u8]
 }
 
 // The checks, where an image is looked for at all.
-fn look_for(k: Numbers, h: Head, command: Command, flash: &[u8], key: &[u8]) -> Checked
+pub fn look_for(k: Numbers, h: Head, command: Command, flash: &[u8], key: &[u8]) -> Checked
     requires { ⌜ Sensible k ⌝ }
     requires { ⌜ (h .boundary ≤ k .top) × (length (now flash) ≡ k .count * k .size) ⌝ }
     ensures { λ r. ⌜ r ≡ checkedFor k h command (now (key .entry)) (now (flash .entry)) ⌝ }
