@@ -29,10 +29,14 @@ fn say_number(n: usize) {
     io::print_decimal(STDOUT_FILENO, n as u64);
 }
 
+fn say_byte(byte: u8) {
+    io::print_hex(STDOUT_FILENO, byte as u64, 2);
+}
+
 fn say_bytes(bytes: &[u8]) {
     let mut i = 0;
     while i < bytes.len() {
-        io::print_hex(STDOUT_FILENO, bytes[i] as u64, 2);
+        say_byte(bytes[i]);
         i += 1;
     }
 }
@@ -70,7 +74,7 @@ fn say_device(d: Device) {
     say_number(h.boundary as usize);
     if h.error != 0 {
         say(b", E ");
-        say_bytes(&[h.error]);
+        say_byte(h.error);
     }
     if h.asked {
         say(b", asked");
@@ -84,13 +88,17 @@ fn end(text: &[u8]) {
     say(b"\n");
 }
 
+fn wide(byte: u8) -> u64 {
+    byte as u64
+}
+
 // A sum of sums, in which each byte counts by its place.
 fn sum(bytes: &[u8]) -> u64 {
     let mut low = 0;
     let mut high = 0;
     let mut i = 0;
     while i < bytes.len() {
-        low = std::num::wrapping_add_u64(low, bytes[i] as u64);
+        low = std::num::wrapping_add_u64(low, wide(bytes[i]));
         high = std::num::wrapping_add_u64(high, low);
         i += 1;
     }
@@ -173,8 +181,8 @@ fn play(d: Device, flash: &mut [u8], stores: usize, loud: bool) -> Device {
 
 // An image of this size at p, on a fresh device.
 fn upgrade(p: u8, size: u16, text: &[u8]) {
-    let mut flash = flash();
     let mut reply = [0xEE; 8];
+    let mut flash = flash();
     put_image(&mut flash, p, size, b"\x00\x00\x00\x00");
     say_flash(&flash);
     let d = ask(Device::fresh(), &mut flash, &UPGRADE, &mut reply, text);
@@ -210,18 +218,18 @@ fn unsound() -> Device {
 
 // A damaged packet on the device, while the response to a good one stands in the reply buffer.
 fn damaged(d: Device, packet: &[u8], text: &[u8]) -> Device {
-    let mut flash = flash();
     let mut reply = *b"\x11\x0E\x05\xFF\x52\xFC\xFF\xFE\xEE\xEE\xEE\xEE";
+    let mut flash = flash();
     ask(d, &mut flash, packet, &mut reply, text)
 }
 
 // The same with a buffer of another length, or an unsound record.
 fn misfits(d: Device) {
-    let mut flash = flash();
     let mut short = [0xFF; 16];
     let mut seven = *b"\x11\x0E\x05\xFF\x52\xFC\xFF";
     let mut reply = *b"\x11\x0E\x05\xFF\x52\xFC\xFF\xFE\xEE\xEE\xEE\xEE";
     ask(d, &mut short, &GET_STATE, &mut reply, b"flash of 16 bytes");
+    let mut flash = flash();
     ask(d, &mut flash, &GET_STATE, &mut seven, b"reply of 7 bytes");
     damaged(unsound(), &GET_STATE, b"unsound record");
 }
@@ -245,11 +253,11 @@ fn incident() {
 fn handle_refuses() {
     say(b"handle\n");
     let d = Device::fresh();
-    let mut flash = flash();
     let mut short = [0xFF; 16];
     let mut seven = [0xEE; 7];
     ask(unsound(), &mut short, b"", &mut seven, b"all faults");
     ask(d, &mut short, b"", &mut seven, b"the record mended");
+    let mut flash = flash();
     ask(d, &mut flash, b"", &mut seven, b"flash");
     damaged(d, b"\x11\x53\xFC", b"the reply buffer");
     damaged(d, b"\x11\x53\xFC\x01", b"4 bytes");
@@ -295,7 +303,6 @@ fn work(d: Device, flash: &mut [u8], text: &[u8]) {
 
 fn restart_and_work_refuse() {
     let d = with_stack(Mode::Idle);
-    let mut flash = flash();
     let mut short = [0xFF; 16];
     let mut five = [0xEE; 5];
     let mut event = [0xEE; 8];
@@ -307,25 +314,26 @@ fn restart_and_work_refuse() {
     say(b"work\n");
     work(unsound(), &mut short, b"all faults");
     work(d, &mut short, b"the record mended");
+    let mut flash = flash();
     work(d, &mut flash, b"flash: no job");
 }
 
 fn cut_refuses() {
     let d = with_stack(Mode::Idle);
-    let mut flash = flash();
     let mut short = [0xFF; 16];
     let mut five = [0xEE; 5];
     let mut event = [0xEE; 8];
-    let filler = filler();
     say(b"cut\n");
     cut(unsound(), &mut short, b"", true, &mut five);
     end(b"all faults");
     cut(d, &mut short, b"", true, &mut five);
     end(b"the record mended");
+    let mut flash = flash();
     cut(d, &mut flash, b"", true, &mut five);
     end(b"flash");
     cut(d, &mut flash, b"", true, &mut event);
     end(b"the event buffer");
+    let filler = filler();
     cut(d, &mut flash, &filler, true, &mut event);
     end(b"the filler: no job, a restart only");
 }
@@ -355,8 +363,8 @@ fn lay_out(flash: &mut [u8]) {
 
 // A job played to its end; the sum of the flash at its end.
 fn job(packet: &[u8], stores: usize, text: &[u8]) -> u64 {
-    let mut flash = flash();
     let mut reply = [0xEE; 8];
+    let mut flash = flash();
     lay_out(&mut flash);
     say_flash(&flash);
     let d = ask(with_stack(Mode::Idle), &mut flash, packet, &mut reply, text);
@@ -370,8 +378,8 @@ fn job(packet: &[u8], stores: usize, text: &[u8]) -> u64 {
 
 // The same upgrade, cut at a store, then played to its end: the flash is to have the same sum.
 fn cut_upgrade(store: usize, through: bool, good: u64) {
-    let mut flash = flash();
     let mut reply = [0xEE; 8];
+    let mut flash = flash();
     lay_out(&mut flash);
     let done = services::handle(with_stack(Mode::Idle), &mut flash, &UPGRADE, &mut reply);
     let d = play(done.device, &mut flash, store, false);

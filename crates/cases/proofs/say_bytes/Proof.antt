@@ -13,14 +13,11 @@ abbrev μ-loop : tie.MeasureT-loop
 loop-holds : tie.Need-loop-holds Inv-loop μ-loop
 loop-holds c = search needs
 
-shared-slice-read-print-hex : tie.Need-shared-slice-read-print-hex Inv-loop μ-loop
-shared-slice-read-print-hex c = search needs
+shared-slice-read-say-byte : tie.Need-shared-slice-read-say-byte Inv-loop μ-loop
+shared-slice-read-say-byte c = search needs
 
-cast-print-hex : tie.Need-cast-print-hex Inv-loop μ-loop
-cast-print-hex c = search needs
-
-print-hex-requires : tie.Need-print-hex-requires Inv-loop μ-loop
-print-hex-requires c κs = search needs
+say-byte-requires : tie.Need-say-byte-requires Inv-loop μ-loop
+say-byte-requires c κs = search needs
 
 add-i : tie.Need-add-i Inv-loop μ-loop
 add-i c = search needs
@@ -41,9 +38,8 @@ say-bytes-spec =
     Inv-loop
     μ-loop
     loop-holds
-    shared-slice-read-print-hex
-    cast-print-hex
-    print-hex-requires
+    shared-slice-read-say-byte
+    say-byte-requires
     add-i
     loop-less
     loop-again
