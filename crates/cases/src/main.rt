@@ -389,17 +389,18 @@ fn cut_upgrade(store: usize, through: bool, good: u64) {
     say(b", then ");
     say_number(next.left);
     let d = play(next.device, &mut flash, 14, false);
-    say_device(d);
+    let head = d.head;
+    let mode = head.mode;
+    say_mode(mode);
     if sum(&flash) == good {
-        say(b", the same flash");
+        say(b", same flash");
     }
-    say(b": cut at store ");
+    say(b": store ");
     say_number(store);
     if through {
-        end(b"gone through");
-        return;
+        say(b", through");
     }
-    end(b"not gone through");
+    say(b"\n");
 }
 
 // A cut at every store.
