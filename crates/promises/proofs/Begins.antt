@@ -39,7 +39,7 @@ use Rattle.services.specs.declared.Numbers.{Numbers}
 use Rattle.services.specs.Jobs.{hasJob, recordedIn}
 use Rattle.services.specs.Calls.{Result, Sensible, refused, lent, checkedFor, keyIn, stepFor, byReading, handled}
 use Rattle.services.proofs.Laws.{boundary-low, erasable}
-use Rattle.promises.specs.Demand.{packet, called, Accepted}
+use Rattle.promises.specs.Demand.{packet, Accepted}
 use Rattle.promises.proofs.Under.{never}
 use Rattle.promises.proofs.Still.{either}
 use Rattle.promises.proofs.Kept.{kept}

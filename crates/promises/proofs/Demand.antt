@@ -1,6 +1,6 @@
 -- DEMAND 3, over the definitions that the calls' contracts cite, for every kind's numbers; upgrade and delete alike.
 -- Assumes nothing.
-use Prim.Native.Nat.{ℕ, zero, suc, _+_, _*_, _≤_, _<_}
+use Prim.Native.Nat.{ℕ, zero, suc, _+_, _≤_, _<_}
 use mathlib.Core.Bool.{Bool, true, false}
 use mathlib.Core.Path.{_≡_, refl, sym, ap, _∙_, subst}
 use mathlib.Core.Logic.{_⊎_, inl, inr}
@@ -8,17 +8,14 @@ use mathlib.Core.List.{List, [], _∷_, _++_}
 use native.Mathlib.Omega.{arith}
 use lib.Dec.{leb, eqb}
 use lib.ListN.{length, replicate}
-use borrow.Author.Tests.{eqb-true, leb-true, le-leb, eq-eqb}
+use borrow.Author.Tests.{eqb-true, leb-true, eq-eqb}
 use Rattle.basics.specs.Choice.{pick}
-use Rattle.plan.specs.Placement.{storeCount}
 use Rattle.plan.specs.declared.Store.{Store}
 use Rattle.plan.specs.Safe.{Safe}
 use Rattle.plan.specs.Uncut.{after}
-use Rattle.plan.specs.Stores.{Plan, Progress, going, ended, planOf, steps, wants, left, leftAt, next, onward, cutShort, stored, spoilt}
-use Rattle.plan.specs.Final.{finalFlash}
+use Rattle.plan.specs.Stores.{Plan, Progress, going, ended, planOf, steps, left, leftAt, next, onward, cutShort, stored, spoilt}
 use Rattle.plan.proofs.Aims.{job-safe}
 use Rattle.plan.proofs.Done.{job-done}
-use Rattle.plan.proofs.Cleared.{stores-are}
 use Rattle.plan.proofs.Counting.{left-less, left-some, left-most}
 use Rattle.plan.proofs.Invariant.{Inv, Good, started, work-good, cut-good, restart-good}
 use Rattle.device.specs.declared.Head.{Head}
@@ -26,14 +23,14 @@ use Rattle.device.specs.declared.Device.{Device}
 use Rattle.device.specs.declared.Mode.{Mode}
 use Rattle.device.specs.declared.Mode.the-variants.{Stack, Idle, Upgrade, Delete}
 use Rattle.device.specs.Whole.{lost}
-use Rattle.device.specs.Sound.{jobOf, planFor, sound}
+use Rattle.device.specs.Sound.{planFor, sound}
 use Rattle.device.proofs.Keeps.{lost-sound}
 use Rattle.services.specs.declared.Numbers.{Numbers}
 use Rattle.services.specs.Jobs.{hasJob, recordedIn, withRecorded, committed, progressed, finished, nextStore, Doing}
-use Rattle.services.specs.Calls.{WorkResult, Sensible, handled, restarted, worked, workedOn, cutIn, cutOff}
+use Rattle.services.specs.Calls.{WorkResult, Sensible, restarted, worked, cutOff}
 use Rattle.services.proofs.Doings.{doing}
 use Rattle.services.proofs.Laws.{cut-busy}
-use Rattle.promises.specs.Demand.{Event, packet, restart, work, cut, State, called, busy, ran, worksIn, NoCut, jobIn, stores, toDo, Accepted, UnderWay, final, Safely, under, over}
+use Rattle.promises.specs.Demand.{Event, packet, restart, work, cut, State, called, busy, ran, worksIn, NoCut, stores, toDo, Accepted, final, Safely, under, over}
 use Rattle.promises.proofs.Under.{never, job-stays, job-same, recorded-is, progressed-again, finished-progressed, finished-lost, sound-progressed}
 use Rattle.promises.proofs.Still.{packet-still, asked-so, started-so, worked-so}
 

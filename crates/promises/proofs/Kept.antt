@@ -1,8 +1,8 @@
 -- SOUNDNESS IS KEPT: fresh is sound, and every call leaves a sound record from a sound one.
 -- Assumes nothing.
-use Prim.Native.Nat.{ℕ, suc, _+_, _-_, _≤_, _<_}
-use mathlib.Core.Bool.{Bool, true, false, not, _&&_, _||_}
-use mathlib.Core.Path.{_≡_, refl, sym, ap, _∙_}
+use Prim.Native.Nat.{ℕ, _+_, _-_, _≤_, _<_}
+use mathlib.Core.Bool.{Bool, true, false, _&&_, _||_}
+use mathlib.Core.Path.{_≡_, refl}
 use mathlib.Core.List.{List}
 use native.Mathlib.Decide.{decLt}
 use native.Mathlib.Omega.{arith}
@@ -21,7 +21,7 @@ use Rattle.image.specs.Images.{sizeLawful, versionLawful, roomFor, checkedOf}
 use Rattle.image.proofs.Answers.{Told, checked-told}
 use Rattle.plan.specs.declared.Store.{Store}
 use Rattle.plan.specs.declared.Store.the-variants.{Erase, Write, Record, Last}
-use Rattle.plan.specs.Stores.{Plan, Progress, going, ended, planOf, steps, wants, next, onward, cutShort}
+use Rattle.plan.specs.Stores.{Plan, Progress, going, ended, planOf, steps, wants, onward, cutShort}
 use Rattle.plan.proofs.Done.{blocks-hold}
 use Rattle.plan.proofs.Due.{wants-is, Due, due}
 use Rattle.device.specs.declared.Head.{Head}
@@ -41,7 +41,7 @@ use Rattle.services.specs.Jobs.{hasJob, recordedIn, committed, progressed, fini
 use Rattle.services.specs.Calls.{Result, RestartResult, WorkResult, Sensible, termsOf, lent, checkedFor, keyIn, byReading, handled, restarted, worked, cutOff}
 use Rattle.services.proofs.Laws.{boundary-some, boundary-low}
 use Rattle.services.proofs.Doings.{doing}
-use Rattle.promises.specs.Demand.{Event, packet, restart, work, cut, State, called}
+use Rattle.promises.specs.Demand.{Event, packet, restart, work, cut, called}
 use Rattle.promises.proofs.Under.{never, sound-progressed}
 use Rattle.promises.proofs.Still.{either}
 

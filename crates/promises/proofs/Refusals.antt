@@ -3,7 +3,6 @@
 use Prim.Native.Nat.{ℕ, _*_, _≤_, _<_}
 use mathlib.Core.Bool.{Bool, true, false}
 use mathlib.Core.Path.{_≡_, refl, sym, ap, _∙_, subst}
-use mathlib.Core.Logic.{_≢_}
 use mathlib.Core.List.{List}
 use native.Mathlib.Omega.{arith}
 use borrow.Author.Tests.{leb-true, leb-false, eqb-true, eqb-false}
@@ -23,11 +22,10 @@ use Rattle.device.specs.declared.Device.{Device}
 use Rattle.device.specs.Whole.{lost}
 use Rattle.device.specs.Sound.{sound}
 use Rattle.services.specs.declared.Numbers.{Numbers}
-use Rattle.services.specs.declared.Verdict.{Verdict}
 use Rattle.services.specs.declared.Verdict.the-variants.{Taken, Refused}
 use Rattle.services.specs.Jobs.{hasJob}
-use Rattle.services.specs.Calls.{Result, RestartResult, WorkResult, result, restartResult, workResult, refused, lent, answered, byReading, handled, eventFor, restarted, workedOn, worked, restarting, cutIn, cutting, cutOff}
-use Rattle.promises.specs.Refusals.{Unsound, NotLent, Short, NoFiller, OfHandle, Rows, OfRestart, OfWork, OfCut, Given, None}
+use Rattle.services.specs.Calls.{Result, RestartResult, WorkResult, restartResult, workResult, refused, lent, answered, byReading, handled, eventFor, restarted, workedOn, worked, restarting, cutIn, cutting, cutOff}
+use Rattle.promises.specs.Refusals.{Unsound, NotLent, Short, NoFiller, OfHandle, Rows, OfRestart, OfWork, OfCut, Given}
 use Rattle.promises.proofs.Under.{never}
 
 -- 1 is the least number, below 2 stands only 1, below 3 only 1 and 2

@@ -1,15 +1,14 @@
 -- The lines "taken" and "E 04": over any flash that holds such an image, FW_UPGRADE is taken exactly if check 3 is met.
 -- Assumes nothing.
 use Prim.Native.Nat.{ℕ}
-use mathlib.Core.Bool.{Bool, true, false}
-use mathlib.Core.Path.{_≡_, refl}
+use mathlib.Core.Bool.{true, false}
+use mathlib.Core.Path.{_≡_}
 use mathlib.Core.List.{List, [], _∷_}
 use lib.ListN.{length}
 use borrow.Author.Tests.{eq-eqb}
 use Rattle.basics.specs.Choice.{pick}
 use Rattle.basics.specs.Words.{zeros}
 use Rattle.answer.specs.declared.Failure.the-variants.{NoRoom}
-use Rattle.answer.specs.declared.Checked.{Checked}
 use Rattle.answer.specs.declared.Checked.the-variants.{Good, Fails}
 use Rattle.image.specs.declared.Terms.{Terms}
 use Rattle.image.specs.Images.{roomFor, decided, judged, checkedOf}

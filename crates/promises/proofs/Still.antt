@@ -2,10 +2,10 @@
 -- Assumes nothing.
 use Prim.Native.Nat.{ℕ, _*_, _≤_}
 use mathlib.Core.Bool.{Bool, true, false}
-use mathlib.Core.Path.{_≡_, refl, sym, ap, _∙_, subst}
+use mathlib.Core.Path.{_≡_, refl}
 use mathlib.Core.List.{List, [], _∷_}
 use borrow.Author.Tests.{le-leb, eq-eqb}
-use lib.Dec.{leb, eqb}
+use lib.Dec.{leb}
 use lib.ListN.{length}
 use Rattle.basics.specs.Choice.{pick}
 use Rattle.packet.specs.declared.Command.{Command}
@@ -15,20 +15,18 @@ use Rattle.packet.specs.declared.Reading.the-variants.{Lawful, Refused}
 use Rattle.packet.specs.Packets.{commandOf, readOf}
 use Rattle.packet.specs.Replies.{response, event, replied}
 use Rattle.answer.specs.declared.Checked.{Checked}
-use Rattle.image.specs.Images.{flashAfter}
-use Rattle.device.specs.declared.Head.{Head}
 use Rattle.device.specs.declared.Step.{Step}
 use Rattle.device.specs.declared.Look.{Look}
 use Rattle.device.specs.declared.Device.{Device}
 use Rattle.device.specs.declared.Mode.{Mode}
 use Rattle.device.specs.declared.Mode.the-variants.{Stack, Idle, Upgrade, Delete}
 use Rattle.device.specs.Commands.{isGetState, jobUnderWay, situated, decided, searches}
-use Rattle.device.specs.Whole.{lost, carried}
-use Rattle.device.specs.Sound.{stackRuns, sound}
+use Rattle.device.specs.Whole.{carried}
+use Rattle.device.specs.Sound.{sound}
 use Rattle.services.specs.declared.Numbers.{Numbers}
 use Rattle.services.specs.Jobs.{hasJob}
-use Rattle.services.specs.Calls.{Result, WorkResult, lent, checkedFor, keyIn, stepFor, byReading, handled, restarted, workedOn, worked, restarting, cutIn, cutOff}
-use Rattle.services.proofs.Laws.{handled-by, cut-busy}
+use Rattle.services.specs.Calls.{Result, lent, keyIn, byReading, handled, restarted, workedOn, worked}
+use Rattle.services.proofs.Laws.{handled-by}
 use Rattle.promises.proofs.Under.{fus-runs, never}
 
 -- a test that picks: what holds of both holds of the pick

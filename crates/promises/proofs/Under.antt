@@ -12,7 +12,7 @@ use Rattle.device.specs.declared.Device.{Device}
 use Rattle.device.specs.declared.Mode.{Mode}
 use Rattle.device.specs.declared.Mode.the-variants.{Stack, Idle, Upgrade, Delete}
 use Rattle.device.specs.Heads.{withMade, withMode, lostHead}
-use Rattle.device.specs.Whole.{lost, withHead}
+use Rattle.device.specs.Whole.{lost}
 use Rattle.device.specs.Commands.{isIdle}
 use Rattle.image.specs.Images.{sizeLawful, versionLawful, roomFor}
 use Rattle.device.specs.Sound.{stackRuns, jobOf, planFor, stackSound, partsSound, errorSound, progressSound, modeSound, headSound, keysSound, sound}

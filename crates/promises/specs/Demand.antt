@@ -4,7 +4,7 @@ use Prim.Native.Nat.{ℕ, suc, _*_, _≤_}
 use mathlib.Core.Bool.{Bool, true, false}
 use mathlib.Core.Path.{_≡_}
 use mathlib.Core.List.{List, [], _∷_}
-use lib.ListN.{length, replicate}
+use lib.ListN.{length}
 use Rattle.basics.specs.Choice.{pick}
 use Rattle.packet.specs.declared.Command.the-variants.{GetState}
 use Rattle.packet.specs.Replies.{response, event, replied}
@@ -12,7 +12,6 @@ use Rattle.plan.specs.declared.Job.{Job}
 use Rattle.plan.specs.Placement.{storeCount}
 use Rattle.plan.specs.Stores.{going, left}
 use Rattle.plan.specs.Final.{finalFlash}
-use Rattle.device.specs.declared.Head.{Head}
 use Rattle.device.specs.declared.Device.{Device}
 use Rattle.device.specs.Whole.{lost}
 use Rattle.device.specs.Sound.{jobOf, planFor, sound}

@@ -1,13 +1,13 @@
 -- What a sound record with a job says of it, and what its stores do to the device.
 -- Assumes nothing.
-use Prim.Native.Nat.{ℕ, suc, _+_, _-_, _*_, _/_, _≤_, _<_}
-use mathlib.Core.Bool.{Bool, true, false, not, _&&_, Bool·beq}
-use mathlib.Core.Path.{_≡_, refl, ap, _∙_}
+use Prim.Native.Nat.{ℕ, _+_, _-_, _*_, _≤_, _<_}
+use mathlib.Core.Bool.{Bool, true, false, _&&_}
+use mathlib.Core.Path.{_≡_, refl, ap}
 use mathlib.Core.List.{List}
 use native.Mathlib.Nat.{mul-le-mul-right, div-eq-of-lt}
 use native.Mathlib.Omega.{arith}
 use borrow.Author.Tests.{leb-true}
-use lib.Dec.{leb, eqb}
+use lib.Dec.{leb}
 use lib.ListN.{length}
 use Rattle.basics.specs.Choice.{pick}
 use Rattle.basics.specs.Words.{zeros}
@@ -20,7 +20,7 @@ use Rattle.plan.specs.declared.Store.the-variants.{Erase, Write, Record, Last}
 use Rattle.plan.specs.Placement.{Able}
 use Rattle.plan.specs.Range.{InRange}
 use Rattle.plan.specs.Safe.{Safe}
-use Rattle.plan.specs.Stores.{Plan, Progress, going, ended, planOf, steps, wants, onward, cutShort, stored, spoilt}
+use Rattle.plan.specs.Stores.{Progress, going, ended, planOf, steps, wants, onward, cutShort, stored, spoilt}
 use Rattle.plan.proofs.Aims.{job-safe}
 use Rattle.plan.proofs.Done.{blocks-hold}
 use Rattle.plan.proofs.Due.{wants-is, Due, due}
@@ -33,7 +33,6 @@ use Rattle.device.specs.Sound.{jobOf, planFor, progressSound, modeSound, sound}
 use Rattle.device.proofs.Laws.{and-left, and-right}
 use Rattle.device.proofs.Parts.{parts}
 use Rattle.services.specs.declared.Numbers.{Numbers}
-use Rattle.services.specs.declared.Turn.{Turn}
 use Rattle.services.specs.declared.Verdict.the-variants.{Taken}
 use Rattle.services.specs.Calls.{Sensible, workResult, restarting, workedOn, cutIn}
 use Rattle.services.specs.Jobs.{hasJob, recordedIn, progressed, headAt, endedAt, nextStore, turnAt, workTurn, cutTurn, Within, Doing}

@@ -2,7 +2,7 @@
 -- Assumes nothing.
 use Prim.Native.Nat.{ℕ, _-_, _*_, _≤_, _<_}
 use mathlib.Core.Bool.{Bool, true, false, not, _&&_, Bool·beq}
-use mathlib.Core.Path.{_≡_, refl, sym, ap, _∙_, subst}
+use mathlib.Core.Path.{_≡_, sym, ap, _∙_}
 use mathlib.Core.List.{List, _∷_}
 use native.Mathlib.Nat.{mul-le-mul-right}
 use native.Mathlib.Omega.{arith}
@@ -25,7 +25,7 @@ use Rattle.image.proofs.Answers.{checked-erasable}
 use Rattle.device.specs.declared.Head.{Head}
 use Rattle.device.specs.declared.Device.{Device}
 use Rattle.device.specs.Commands.{searches}
-use Rattle.device.specs.Sound.{stackSound, sound}
+use Rattle.device.specs.Sound.{sound}
 use Rattle.device.proofs.Laws.{and-left, and-right}
 use Rattle.device.proofs.Parts.{parts}
 use Rattle.services.specs.declared.Numbers.{Numbers}

@@ -2,8 +2,6 @@ use Rattle.basics.specs.Words.{zeros}
 use Rattle.basics.specs.Choice.{cases}
 use Rattle.services.proofs.advance.Statement.{statement}
 use Rattle.services.proofs.advance.Tie as tie
-use Rattle.services.proofs.advance.Reads as reads
-use Rattle.services.proofs.advance.Lts as lts
 
 returns : tie.Need-returns
 unfolding zeros

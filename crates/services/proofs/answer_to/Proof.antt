@@ -3,14 +3,6 @@ use Rattle.device.proofs.Fits.{decided-fits}
 use borrow.Author.Needs.{needs}
 use Rattle.services.proofs.answer_to.Statement.{statement}
 use Rattle.services.proofs.answer_to.Tie as tie
-use Rattle.services.proofs.answer_to.Reads as reads
-use Rattle.services.proofs.answer_to.Lts as lts
-use Rattle.device.proofs.whole.carry.Reads as carry-reads
-use Rattle.image.proofs.clear_after.Reads as clear-after-reads
-use Rattle.services.proofs.decide.Reads as decide-reads
-use Rattle.services.proofs.key_in.Reads as key-in-reads
-use Rattle.services.proofs.look_for.Reads as look-for-reads
-use Rattle.services.proofs.respond.Reads as respond-reads
 
 look-for-requires : tie.Need-look-for-requires
 look-for-requires c κs = let p = c .before .before .before .before .before .before .before .before .pre in (p .0, (boundary-low _ _ _ (p .1 .record-sound), p .1 .lent-flash))

@@ -2,10 +2,6 @@ use Rattle.services.proofs.Laws.{first-sensible}
 use borrow.Author.Needs.{needs}
 use Rattle.services.proofs.cut.Statement.{statement}
 use Rattle.services.proofs.cut.Tie as tie
-use Rattle.services.proofs.cut.Reads as reads
-use Rattle.services.proofs.cut.Lts as lts
-use Rattle.services.proofs.cut_as.Reads as cut-as-reads
-use Rattle.services.proofs.first_kind.Reads as first-kind-reads
 
 first-kind-requires : tie.Need-first-kind-requires
 first-kind-requires c κs = search needs

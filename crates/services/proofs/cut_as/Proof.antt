@@ -8,13 +8,6 @@ use Rattle.basics.specs.Choice.{cases}
 use borrow.Author.Needs.{needs}
 use Rattle.services.proofs.cut_as.Statement.{statement}
 use Rattle.services.proofs.cut_as.Tie as tie
-use Rattle.services.proofs.cut_as.Reads as reads
-use Rattle.services.proofs.cut_as.Lts as lts
-use Rattle.device.proofs.soundness.is_sound.Reads as is-sound-reads
-use Rattle.services.proofs.cut_on.Reads as cut-on-reads
-use Rattle.services.proofs.jobs.has_job.Reads as has-job-reads
-use Rattle.services.proofs.refuse.Reads as refuse-reads
-use Rattle.services.proofs.start.Reads as start-reads
 
 is-sound-requires : tie.Need-is-sound-requires
 is-sound-requires c κs = search needs

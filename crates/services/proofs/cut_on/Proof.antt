@@ -2,11 +2,6 @@ use Rattle.services.proofs.Doings.{doing, within, cut-by}
 use borrow.Author.Needs.{needs}
 use Rattle.services.proofs.cut_on.Statement.{statement}
 use Rattle.services.proofs.cut_on.Tie as tie
-use Rattle.services.proofs.cut_on.Reads as reads
-use Rattle.services.proofs.cut_on.Lts as lts
-use Rattle.services.proofs.jobs.cut_turn.Reads as cut-turn-reads
-use Rattle.services.proofs.start.Reads as start-reads
-use Rattle.services.proofs.stores.cut.Reads as cut-reads
 
 cut-turn-requires : tie.Need-cut-turn-requires
 cut-turn-requires c κs = let b = c .before .before .before .pre .1 .0 in doing _ _ (c .before .before .before .pre .0) (b .record-sound) (b .job)

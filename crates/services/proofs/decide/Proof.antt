@@ -1,12 +1,6 @@
 use borrow.Author.Needs.{needs}
 use Rattle.services.proofs.decide.Statement.{statement}
 use Rattle.services.proofs.decide.Tie as tie
-use Rattle.services.proofs.decide.Reads as reads
-use Rattle.services.proofs.decide.Lts as lts
-use Rattle.device.proofs.commands.decide.Reads as decide-reads
-use Rattle.device.proofs.whole.look_up.Reads as look-up-reads
-use Rattle.packet.proofs.byte_at.Reads as byte-at-reads
-use Rattle.services.proofs.key_in.Reads as key-in-reads
 
 byte-at-requires : tie.Need-byte-at-requires
 byte-at-requires c κs = search needs

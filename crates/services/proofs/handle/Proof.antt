@@ -2,10 +2,6 @@ use Rattle.services.proofs.Laws.{first-sensible}
 use borrow.Author.Needs.{needs}
 use Rattle.services.proofs.handle.Statement.{statement}
 use Rattle.services.proofs.handle.Tie as tie
-use Rattle.services.proofs.handle.Reads as reads
-use Rattle.services.proofs.handle.Lts as lts
-use Rattle.services.proofs.first_kind.Reads as first-kind-reads
-use Rattle.services.proofs.handle_as.Reads as handle-as-reads
 
 first-kind-requires : tie.Need-first-kind-requires
 first-kind-requires c κs = search needs

@@ -9,12 +9,6 @@ use Rattle.basics.specs.Choice.{cases}
 use borrow.Author.Needs.{needs}
 use Rattle.services.proofs.handle_as.Statement.{statement}
 use Rattle.services.proofs.handle_as.Tie as tie
-use Rattle.services.proofs.handle_as.Reads as reads
-use Rattle.services.proofs.handle_as.Lts as lts
-use Rattle.device.proofs.soundness.is_sound.Reads as is-sound-reads
-use Rattle.packet.proofs.read.Reads as read-reads
-use Rattle.services.proofs.answer_to.Reads as answer-to-reads
-use Rattle.services.proofs.refuse.Reads as refuse-reads
 
 is-sound-requires : tie.Need-is-sound-requires
 is-sound-requires c κs = search needs

@@ -4,9 +4,6 @@ use Rattle.basics.specs.Choice.{cases}
 use borrow.Author.Needs.{needs}
 use Rattle.services.proofs.key_in.Statement.{statement}
 use Rattle.services.proofs.key_in.Tie as tie
-use Rattle.services.proofs.key_in.Reads as reads
-use Rattle.services.proofs.key_in.Lts as lts
-use Rattle.packet.proofs.opcode_of.Reads as opcode-of-reads
 
 opcode-of-requires : tie.Need-opcode-of-requires
 opcode-of-requires c κs = search needs

@@ -4,10 +4,6 @@ use Rattle.basics.specs.Choice.{cases}
 use borrow.Author.Needs.{needs}
 use Rattle.services.proofs.look_for.Statement.{statement}
 use Rattle.services.proofs.look_for.Tie as tie
-use Rattle.services.proofs.look_for.Reads as reads
-use Rattle.services.proofs.look_for.Lts as lts
-use Rattle.device.proofs.commands.searches.Reads as searches-reads
-use Rattle.image.proofs.check.Reads as check-reads
 
 searches-requires : tie.Need-searches-requires
 searches-requires c κs = search needs

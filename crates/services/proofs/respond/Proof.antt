@@ -1,11 +1,6 @@
 use borrow.Author.Needs.{needs}
 use Rattle.services.proofs.respond.Statement.{statement}
 use Rattle.services.proofs.respond.Tie as tie
-use Rattle.services.proofs.respond.Reads as reads
-use Rattle.services.proofs.respond.Lts as lts
-use Rattle.answer.proofs.payload_of.Reads as payload-of-reads
-use Rattle.answer.proofs.status_of.Reads as status-of-reads
-use Rattle.packet.proofs.write_response.Reads as write-response-reads
 
 status-of-requires : tie.Need-status-of-requires
 status-of-requires c κs = search needs

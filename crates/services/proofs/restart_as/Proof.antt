@@ -3,11 +3,6 @@ use Rattle.services.specs.Calls.{restarted}
 use borrow.Author.Needs.{needs}
 use Rattle.services.proofs.restart_as.Statement.{statement}
 use Rattle.services.proofs.restart_as.Tie as tie
-use Rattle.services.proofs.restart_as.Reads as reads
-use Rattle.services.proofs.restart_as.Lts as lts
-use Rattle.device.proofs.soundness.is_sound.Reads as is-sound-reads
-use Rattle.services.proofs.refuse.Reads as refuse-reads
-use Rattle.services.proofs.start.Reads as start-reads
 
 is-sound-requires : tie.Need-is-sound-requires
 is-sound-requires c κs = search needs

@@ -1,11 +1,6 @@
 use borrow.Author.Needs.{needs}
 use Rattle.services.proofs.start.Statement.{statement}
 use Rattle.services.proofs.start.Tie as tie
-use Rattle.services.proofs.start.Reads as reads
-use Rattle.services.proofs.start.Lts as lts
-use Rattle.device.proofs.soundness.stack_runs.Reads as stack-runs-reads
-use Rattle.device.proofs.whole.lose.Reads as lose-reads
-use Rattle.packet.proofs.write_event.Reads as write-event-reads
 
 stack-runs-requires : tie.Need-stack-runs-requires
 stack-runs-requires c κs = search needs

@@ -2,10 +2,6 @@ use Rattle.services.proofs.Laws.{first-sensible}
 use borrow.Author.Needs.{needs}
 use Rattle.services.proofs.work.Statement.{statement}
 use Rattle.services.proofs.work.Tie as tie
-use Rattle.services.proofs.work.Reads as reads
-use Rattle.services.proofs.work.Lts as lts
-use Rattle.services.proofs.first_kind.Reads as first-kind-reads
-use Rattle.services.proofs.work_as.Reads as work-as-reads
 
 first-kind-requires : tie.Need-first-kind-requires
 first-kind-requires c κs = search needs

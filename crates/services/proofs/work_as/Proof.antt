@@ -6,12 +6,6 @@ use Rattle.basics.specs.Choice.{cases}
 use borrow.Author.Needs.{needs}
 use Rattle.services.proofs.work_as.Statement.{statement}
 use Rattle.services.proofs.work_as.Tie as tie
-use Rattle.services.proofs.work_as.Reads as reads
-use Rattle.services.proofs.work_as.Lts as lts
-use Rattle.device.proofs.soundness.is_sound.Reads as is-sound-reads
-use Rattle.services.proofs.idle_work.Reads as idle-work-reads
-use Rattle.services.proofs.jobs.has_job.Reads as has-job-reads
-use Rattle.services.proofs.work_on.Reads as work-on-reads
 
 is-sound-requires : tie.Need-is-sound-requires
 is-sound-requires c κs = search needs

@@ -2,11 +2,6 @@ use Rattle.services.proofs.Doings.{doing, within, worked-by}
 use borrow.Author.Needs.{needs}
 use Rattle.services.proofs.work_on.Statement.{statement}
 use Rattle.services.proofs.work_on.Tie as tie
-use Rattle.services.proofs.work_on.Reads as reads
-use Rattle.services.proofs.work_on.Lts as lts
-use Rattle.services.proofs.advance.Reads as advance-reads
-use Rattle.services.proofs.jobs.work_turn.Reads as work-turn-reads
-use Rattle.services.proofs.stores.make.Reads as make-reads
 
 work-turn-requires : tie.Need-work-turn-requires
 work-turn-requires c κs = let b = c .before .pre .1 in doing _ _ (c .before .pre .0) (b .record-sound) (b .job)

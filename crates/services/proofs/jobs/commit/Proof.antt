@@ -2,10 +2,6 @@ use Rattle.services.proofs.Doings.{stack-low}
 use borrow.Author.Needs.{needs}
 use Rattle.services.proofs.jobs.commit.Statement.{statement}
 use Rattle.services.proofs.jobs.commit.Tie as tie
-use Rattle.services.proofs.jobs.commit.Reads as reads
-use Rattle.services.proofs.jobs.commit.Lts as lts
-use Rattle.sectors.proofs.sectors_for.Reads as sectors-for-reads
-use Rattle.services.proofs.jobs.installed.Reads as installed-reads
 
 enum-told : tie.Need-enum-told
 enum-told c = search needs

@@ -6,12 +6,6 @@ use mathlib.Core.Path.{_∙_}
 use borrow.Author.Needs.{needs}
 use Rattle.services.proofs.jobs.cut_turn.Statement.{statement}
 use Rattle.services.proofs.jobs.cut_turn.Tie as tie
-use Rattle.services.proofs.jobs.cut_turn.Reads as reads
-use Rattle.services.proofs.jobs.cut_turn.Lts as lts
-use Rattle.services.proofs.jobs.ending.Reads as ending-reads
-use Rattle.services.proofs.jobs.going.Reads as going-reads
-use Rattle.services.proofs.jobs.next_store.Reads as next-store-reads
-use Rattle.services.proofs.jobs.recorded_in.Reads as recorded-in-reads
 
 next-store-requires : tie.Need-next-store-requires
 next-store-requires c κs = search needs

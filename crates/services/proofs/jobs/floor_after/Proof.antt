@@ -1,8 +1,6 @@
 use Rattle.basics.specs.Choice.{cases}
 use Rattle.services.proofs.jobs.floor_after.Statement.{statement}
 use Rattle.services.proofs.jobs.floor_after.Tie as tie
-use Rattle.services.proofs.jobs.floor_after.Reads as reads
-use Rattle.services.proofs.jobs.floor_after.Lts as lts
 
 returns : tie.Need-returns
 returns c = search cases

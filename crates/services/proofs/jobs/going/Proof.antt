@@ -2,11 +2,6 @@ use Rattle.plan.specs.Stores.{leftAt}
 use borrow.Author.Needs.{needs}
 use Rattle.services.proofs.jobs.going.Statement.{statement}
 use Rattle.services.proofs.jobs.going.Tie as tie
-use Rattle.services.proofs.jobs.going.Reads as reads
-use Rattle.services.proofs.jobs.going.Lts as lts
-use Rattle.plan.proofs.left.Reads as left-reads
-use Rattle.services.proofs.jobs.job_of.Reads as job-of-reads
-use Rattle.services.proofs.jobs.with_recorded.Reads as with-recorded-reads
 
 job-of-requires : tie.Need-job-of-requires
 job-of-requires c κs = search needs

@@ -1,9 +1,6 @@
 use borrow.Author.Needs.{needs}
 use Rattle.services.proofs.jobs.installed.Statement.{statement}
 use Rattle.services.proofs.jobs.installed.Tie as tie
-use Rattle.services.proofs.jobs.installed.Reads as reads
-use Rattle.services.proofs.jobs.installed.Lts as lts
-use Rattle.services.proofs.jobs.floor_after.Reads as floor-after-reads
 
 floor-after-requires : tie.Need-floor-after-requires
 floor-after-requires c κs = search needs

@@ -1,8 +1,6 @@
 use borrow.Author.Needs.{needs}
 use Rattle.services.proofs.jobs.job_of.Statement.{statement}
 use Rattle.services.proofs.jobs.job_of.Tie as tie
-use Rattle.services.proofs.jobs.job_of.Reads as reads
-use Rattle.services.proofs.jobs.job_of.Lts as lts
 
 enum-told : tie.Need-enum-told
 enum-told c = search needs

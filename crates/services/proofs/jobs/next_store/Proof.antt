@@ -1,11 +1,6 @@
 use borrow.Author.Needs.{needs}
 use Rattle.services.proofs.jobs.next_store.Statement.{statement}
 use Rattle.services.proofs.jobs.next_store.Tie as tie
-use Rattle.services.proofs.jobs.next_store.Reads as reads
-use Rattle.services.proofs.jobs.next_store.Lts as lts
-use Rattle.plan.proofs.next.Reads as next-reads
-use Rattle.services.proofs.jobs.job_of.Reads as job-of-reads
-use Rattle.services.proofs.jobs.recorded_in.Reads as recorded-in-reads
 
 job-of-requires : tie.Need-job-of-requires
 job-of-requires c κs = search needs

@@ -1,8 +1,6 @@
 use borrow.Author.Needs.{needs}
 use Rattle.services.proofs.jobs.with_recorded.Statement.{statement}
 use Rattle.services.proofs.jobs.with_recorded.Tie as tie
-use Rattle.services.proofs.jobs.with_recorded.Reads as reads
-use Rattle.services.proofs.jobs.with_recorded.Lts as lts
 
 enum-told : tie.Need-enum-told
 enum-told c = search needs

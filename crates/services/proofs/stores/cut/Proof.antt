@@ -2,9 +2,6 @@ use Rattle.plan.specs.Stores.{spoilt}
 use borrow.Author.Needs.{needs}
 use Rattle.services.proofs.stores.cut.Statement.{statement}
 use Rattle.services.proofs.stores.cut.Tie as tie
-use Rattle.services.proofs.stores.cut.Reads as reads
-use Rattle.services.proofs.stores.cut.Lts as lts
-use Rattle.sectors.proofs.spoil.Reads as spoil-reads
 
 enum-known-store : tie.Need-enum-known-store
 enum-known-store c = search needs

@@ -2,10 +2,6 @@ use Rattle.plan.specs.Stores.{stored}
 use borrow.Author.Needs.{needs}
 use Rattle.services.proofs.stores.make.Statement.{statement}
 use Rattle.services.proofs.stores.make.Tie as tie
-use Rattle.services.proofs.stores.make.Reads as reads
-use Rattle.services.proofs.stores.make.Lts as lts
-use Rattle.sectors.proofs.copy.Reads as copy-reads
-use Rattle.sectors.proofs.erase.Reads as erase-reads
 
 enum-known-store : tie.Need-enum-known-store
 enum-known-store c = search needs
