@@ -8,8 +8,6 @@ use device::Effect;
 use device::Head;
 use device::Mode;
 use device::Step;
-use device::commands;
-use device::soundness;
 use device::whole;
 use libc::STDOUT_FILENO;
 use packet::Command;
@@ -118,7 +116,7 @@ fn ask(
 ) -> Device {
     let look = whole::look_up(&d.kinds, &d.locks, first);
     let head = d.head;
-    let step = commands::decide(head, look, checked, command, first, key.len());
+    let step = decisions::decide(head, look, checked, command, first, key.len());
     let next = carry(d, step, key);
     let given = step.answer;
     show(answer::status_of(given));

@@ -1,15 +1,11 @@
-// The device that is played: its record by value, and what FUS decides on a lawful command.
+// The device that is played: its record by value, and what a decided step makes of it.
 // The head is the unit of decision; an effect says what is still to be done to the arrays.
-pub mod commands;
-pub mod soundness;
 pub mod whole;
 
 use answer::Answer;
-use answer::Failure;
 ghost use mathlib.Core.Path.{_≡_};
-ghost use Rattle.device.specs.Kind.{sectorSize, sectorCount, fusSector, flashLength, freshDevice};
+ghost use Rattle.device.specs.Kind.{sectorSize, sectorCount, fusSector, flashLength, freshHead, freshDevice};
 ghost use Rattle.device.specs.Heads.{lostHead};
-ghost use Rattle.device.specs.Commands.{failed, accepted, storedKey};
 
 // Which program runs, and the job: the stack, or FUS, idle or with a job of which some sectors are recorded.
 pub enum Mode {
@@ -113,27 +109,12 @@ impl Device {
         Device::SECTOR_COUNT * Device::SECTOR_SIZE
     }
 
-    // No stack, no keys, no job, anti-rollback off, FUS running.
+    // The fresh head, and no keys in the arrays.
     pub fn fresh() -> Device
         ensures { λ r. ⌜ r ≡ freshDevice ⌝ }
     {
         Device {
-            head: Head {
-                present: false,
-                version: 0xFFFF_FFFF,
-                sectors: 0,
-                boundary: Device::FUS_SECTOR as u32,
-                mode: Mode::Idle,
-                count: 0,
-                auth: false,
-                locked: false,
-                rollback: false,
-                floor: 0,
-                loaded: 0,
-                asked: false,
-                error: 0,
-                made: 0,
-            },
+            head: Head::fresh(),
             locks: [0; 101],
             key: [0; 64],
             kinds: [0; 101],
@@ -144,28 +125,25 @@ impl Device {
 }
 
 impl Head {
-    // The command fails: its error becomes pending.
-    pub fn failed(self, failure: Failure) -> Step
-        ensures { λ r. ⌜ r ≡ failed self failure ⌝ }
+    // No stack, no keys, no job, anti-rollback off, FUS running.
+    pub fn fresh() -> Head
+        ensures { λ r. ⌜ r ≡ freshHead ⌝ }
     {
-        Step {
-            head: Head {
-                error: answer::error_of(failure),
-                ..self
-            },
-            answer: Answer::Failed(failure),
-            effect: Effect::Keep,
-        }
-    }
-
-    // The command is accepted: the pending error is cleared.
-    pub fn accepted(self, answer: Answer, effect: Effect) -> Step
-        ensures { λ r. ⌜ r ≡ accepted self answer effect ⌝ }
-    {
-        Step {
-            head: Head { error: 0, ..self },
-            answer,
-            effect,
+        Head {
+            present: false,
+            version: 0xFFFF_FFFF,
+            sectors: 0,
+            boundary: Device::FUS_SECTOR as u32,
+            mode: Mode::Idle,
+            count: 0,
+            auth: false,
+            locked: false,
+            rollback: false,
+            floor: 0,
+            loaded: 0,
+            asked: false,
+            error: 0,
+            made: 0,
         }
     }
 
@@ -180,12 +158,5 @@ impl Head {
             made: 0,
             ..self
         }
-    }
-
-    // Is the index that of a stored user key?
-    pub fn stored(self, index: u8) -> bool
-        ensures { λ r. ⌜ r ≡ storedKey self index ⌝ }
-    {
-        (1 <= index) & (index <= self.count)
     }
 }

@@ -10,11 +10,11 @@ use Rattle.plan.specs.Stores.{Progress, going, ended, planOf, leftAt}
 use Rattle.plan.proofs.Counting.{left-most}
 use Rattle.device.specs.declared.Head.{Head}
 use Rattle.device.specs.declared.Device.{Device}
-use Rattle.device.specs.Sound.{planFor, sound}
+use Rattle.soundness.specs.Sound.{planFor, sound}
 use Rattle.packet.specs.declared.Refusal.the-variants.{UnsoundRecord, FlashLength}
 use Rattle.services.specs.declared.Numbers.{Numbers}
 use Rattle.services.specs.declared.Verdict.the-variants.{Taken, Refused}
-use Rattle.services.specs.Jobs.{hasJob, Doing}
+use Rattle.jobs.specs.Jobs.{hasJob, Doing}
 use Rattle.services.specs.Calls.{Sensible, first, lent, workResult, workedOn, worked}
 use Rattle.services.proofs.Doings.{doing}
 use Rattle.services.proofs.Laws.{first-sensible}

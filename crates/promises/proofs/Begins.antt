@@ -9,7 +9,7 @@ use native.Mathlib.Omega.{arith}
 use borrow.Author.Tests.{eqb-true}
 use lib.Dec.{leb, eqb}
 use lib.ListN.{length}
-use Rattle.basics.specs.Choice.{pick}
+use Rattle.basics.specs.Choice.{pick, and-right}
 use Rattle.basics.specs.Words.{byteAt}
 use Rattle.sectors.proofs.Laws.{stored-length, length-erased}
 use Rattle.packet.specs.declared.Refusal.{Refusal}
@@ -30,13 +30,12 @@ use Rattle.device.specs.declared.Effect.the-variants.{Keep, Drop, Lock, Put, Au
 use Rattle.device.specs.declared.Device.{Device}
 use Rattle.device.specs.declared.Mode.{Mode}
 use Rattle.device.specs.declared.Mode.the-variants.{Stack, Idle, Upgrade, Delete}
-use Rattle.device.specs.Commands.{isGetState, stackRunning, jobUnderWay, typeLawful, keyLawful, storedKey, storeKey, loadKey, upgrade, idle, situated, decided}
+use Rattle.decisions.specs.Commands.{isGetState, stackRunning, jobUnderWay, typeLawful, keyLawful, storedKey, storeKey, loadKey, upgrade, idle, situated, decided}
 use Rattle.device.specs.Whole.{Shaped, look, withHead, apply, carried}
-use Rattle.device.specs.Sound.{modeSound, sound}
-use Rattle.device.proofs.Laws.{and-right}
-use Rattle.device.proofs.Parts.{parts}
+use Rattle.soundness.specs.Sound.{modeSound, sound}
+use Rattle.soundness.proofs.Parts.{parts}
 use Rattle.services.specs.declared.Numbers.{Numbers}
-use Rattle.services.specs.Jobs.{hasJob, recordedIn}
+use Rattle.jobs.specs.Jobs.{hasJob, recordedIn}
 use Rattle.services.specs.Calls.{Result, Sensible, refused, lent, checkedFor, keyIn, stepFor, byReading, handled}
 use Rattle.services.proofs.Laws.{boundary-low, erasable}
 use Rattle.promises.specs.Demand.{packet, Accepted}

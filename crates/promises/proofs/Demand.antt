@@ -23,10 +23,10 @@ use Rattle.device.specs.declared.Device.{Device}
 use Rattle.device.specs.declared.Mode.{Mode}
 use Rattle.device.specs.declared.Mode.the-variants.{Stack, Idle, Upgrade, Delete}
 use Rattle.device.specs.Whole.{lost}
-use Rattle.device.specs.Sound.{planFor, sound}
-use Rattle.device.proofs.Keeps.{lost-sound}
+use Rattle.soundness.specs.Sound.{planFor, sound}
+use Rattle.soundness.proofs.Keeps.{lost-sound}
 use Rattle.services.specs.declared.Numbers.{Numbers}
-use Rattle.services.specs.Jobs.{hasJob, recordedIn, withRecorded, committed, progressed, finished, nextStore, Doing}
+use Rattle.jobs.specs.Jobs.{hasJob, recordedIn, withRecorded, committed, progressed, finished, nextStore, Doing}
 use Rattle.services.specs.Calls.{WorkResult, Sensible, restarted, worked, cutOff}
 use Rattle.services.proofs.Doings.{doing}
 use Rattle.services.proofs.Laws.{cut-busy}

@@ -9,7 +9,7 @@ use native.Mathlib.Omega.{arith}
 use borrow.Author.Tests.{leb-true, le-leb, eq-eqb, ne-eqb}
 use lib.Dec.{leb, eqb}
 use lib.ListN.{length}
-use Rattle.basics.specs.Choice.{pick}
+use Rattle.basics.specs.Choice.{pick, and-left, and-right}
 use Rattle.basics.specs.Words.{byteAt, zeros}
 use Rattle.sectors.specs.Sectors.{sectorsFor}
 use Rattle.packet.specs.declared.Reading.{Reading}
@@ -29,15 +29,14 @@ use Rattle.device.specs.declared.Device.{Device}
 use Rattle.device.specs.declared.Mode.{Mode}
 use Rattle.device.specs.declared.Mode.the-variants.{Stack, Idle, Upgrade, Delete}
 use Rattle.device.specs.Heads.{lostHead}
-use Rattle.device.specs.Commands.{isIdle, searches}
+use Rattle.decisions.specs.Commands.{isIdle, searches}
 use Rattle.device.specs.Whole.{Shaped, lost}
-use Rattle.device.specs.Sound.{jobOf, planFor, errorSound, progressSound, modeSound, CheckedLawful, sound}
-use Rattle.device.proofs.Laws.{and-left, and-right}
-use Rattle.device.proofs.Parts.{Numbers as HeadSays, Keys, Parts, parts, whole}
-use Rattle.device.proofs.Keys.{keys-lost}
-use Rattle.device.proofs.Keeps.{lost-sound, decided-sound}
+use Rattle.soundness.specs.Sound.{jobOf, planFor, errorSound, progressSound, modeSound, CheckedLawful, sound}
+use Rattle.soundness.proofs.Parts.{Numbers as HeadSays, Keys, Parts, parts, whole}
+use Rattle.soundness.proofs.Keys.{keys-lost}
+use Rattle.soundness.proofs.Keeps.{lost-sound, decided-sound}
 use Rattle.services.specs.declared.Numbers.{Numbers}
-use Rattle.services.specs.Jobs.{hasJob, recordedIn, committed, progressed, finished, nextStore, Doing}
+use Rattle.jobs.specs.Jobs.{hasJob, recordedIn, committed, progressed, finished, nextStore, Doing}
 use Rattle.services.specs.Calls.{Result, RestartResult, WorkResult, Sensible, termsOf, lent, checkedFor, keyIn, byReading, handled, restarted, worked, cutOff}
 use Rattle.services.proofs.Laws.{boundary-some, boundary-low}
 use Rattle.services.proofs.Doings.{doing}

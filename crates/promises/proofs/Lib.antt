@@ -1,4 +1,3 @@
-pub mod Both
 pub mod Cases
 pub mod Room
 pub mod Under

@@ -20,10 +20,10 @@ use Rattle.packet.specs.Lawful.{Bytes, Applies, LawfulPacket, Given as GivenOf}
 use Rattle.packet.proofs.Lawful.{taken, none, least}
 use Rattle.device.specs.declared.Device.{Device}
 use Rattle.device.specs.Whole.{lost}
-use Rattle.device.specs.Sound.{sound}
+use Rattle.soundness.specs.Sound.{sound}
 use Rattle.services.specs.declared.Numbers.{Numbers}
 use Rattle.services.specs.declared.Verdict.the-variants.{Taken, Refused}
-use Rattle.services.specs.Jobs.{hasJob}
+use Rattle.jobs.specs.Jobs.{hasJob}
 use Rattle.services.specs.Calls.{Result, RestartResult, WorkResult, restartResult, workResult, refused, lent, answered, byReading, handled, eventFor, restarted, workedOn, worked, restarting, cutIn, cutting, cutOff}
 use Rattle.promises.specs.Refusals.{Unsound, NotLent, Short, NoFiller, OfHandle, Rows, OfRestart, OfWork, OfCut, Given}
 use Rattle.promises.proofs.Under.{never}

@@ -20,11 +20,11 @@ use Rattle.device.specs.declared.Look.{Look}
 use Rattle.device.specs.declared.Device.{Device}
 use Rattle.device.specs.declared.Mode.{Mode}
 use Rattle.device.specs.declared.Mode.the-variants.{Stack, Idle, Upgrade, Delete}
-use Rattle.device.specs.Commands.{isGetState, jobUnderWay, situated, decided, searches}
+use Rattle.decisions.specs.Commands.{isGetState, jobUnderWay, situated, decided, searches}
 use Rattle.device.specs.Whole.{carried}
-use Rattle.device.specs.Sound.{sound}
+use Rattle.soundness.specs.Sound.{sound}
 use Rattle.services.specs.declared.Numbers.{Numbers}
-use Rattle.services.specs.Jobs.{hasJob}
+use Rattle.jobs.specs.Jobs.{hasJob}
 use Rattle.services.specs.Calls.{Result, lent, keyIn, byReading, handled, restarted, workedOn, worked}
 use Rattle.services.proofs.Laws.{handled-by}
 use Rattle.promises.proofs.Under.{fus-runs, never}

@@ -5,7 +5,7 @@ use mathlib.Core.Bool.{Bool, true, false, _&&_}
 use mathlib.Core.Path.{_≡_, refl}
 use native.Mathlib.Omega.{arith}
 use borrow.Author.Tests.{le-leb}
-use Rattle.promises.proofs.Both.{both-true, and-left, and-right, last-changed}
+use Rattle.basics.specs.Choice.{both-true, and-left, and-right}
 use Rattle.plan.specs.Stores.{going, planOf, steps, wants}
 use Rattle.device.specs.declared.Head.{Head}
 use Rattle.device.specs.declared.Device.{Device}
@@ -13,10 +13,14 @@ use Rattle.device.specs.declared.Mode.{Mode}
 use Rattle.device.specs.declared.Mode.the-variants.{Stack, Idle, Upgrade, Delete}
 use Rattle.device.specs.Heads.{withMade, withMode, lostHead}
 use Rattle.device.specs.Whole.{lost}
-use Rattle.device.specs.Commands.{isIdle}
+use Rattle.decisions.specs.Commands.{isIdle}
 use Rattle.image.specs.Images.{sizeLawful, versionLawful, roomFor}
-use Rattle.device.specs.Sound.{stackRuns, jobOf, planFor, stackSound, partsSound, errorSound, progressSound, modeSound, headSound, keysSound, sound}
-use Rattle.services.specs.Jobs.{hasJob, recordedIn, withRecorded, committed, progressed, finished}
+use Rattle.soundness.specs.Sound.{stackRuns, jobOf, planFor, stackSound, partsSound, errorSound, progressSound, modeSound, headSound, keysSound, sound}
+use Rattle.jobs.specs.Jobs.{hasJob, recordedIn, withRecorded, committed, progressed, finished}
+
+-- tests that hold together, the last exchanged for another that holds
+last-changed : (a b x : Bool) → a && b ≡ true → x ≡ true → a && x ≡ true
+last-changed a b x e h = both-true a x (and-left a b e) h
 
 pub never : false ≡ true → ⊥
 never e = let z : _≡_ {A = ℕ} 0 1 = cc in omega arith

@@ -16,8 +16,8 @@ use Rattle.device.specs.declared.Device.{Device}
 use Rattle.device.specs.declared.Mode.the-variants.{Stack}
 use Rattle.device.specs.Whole.{withHead}
 use Rattle.device.specs.Kind.{sectorSize, fusSector, freshHead, freshDevice}
-use Rattle.device.specs.Sound.{sound}
-use Rattle.services.specs.Jobs.{withStack}
+use Rattle.soundness.specs.Sound.{sound}
+use Rattle.jobs.specs.Jobs.{withStack}
 use Rattle.services.specs.Calls.{Result, first, byReading, restarted}
 
 -- a device with an old stack in sectors 240 to 243, which runs

@@ -14,9 +14,9 @@ use Rattle.plan.specs.Stores.{going, left}
 use Rattle.plan.specs.Final.{finalFlash}
 use Rattle.device.specs.declared.Device.{Device}
 use Rattle.device.specs.Whole.{lost}
-use Rattle.device.specs.Sound.{jobOf, planFor, sound}
+use Rattle.soundness.specs.Sound.{jobOf, planFor, sound}
 use Rattle.services.specs.declared.Numbers.{Numbers}
-use Rattle.services.specs.Jobs.{hasJob, recordedIn, progressed, finished}
+use Rattle.jobs.specs.Jobs.{hasJob, recordedIn, progressed, finished}
 use Rattle.services.specs.Calls.{handled, restarted, worked, cutOff}
 
 -- an event: a call with any arguments. A packet may be lawful, damaged or rubbish, a filler or a reply buffer of any length: what breaks the

@@ -10,7 +10,7 @@ use Rattle.packet.specs.declared.Refusal.the-variants.{UnsoundRecord, FlashLeng
 use Rattle.packet.specs.Packets.{numberOf}
 use Rattle.packet.specs.Lawful.{Applies}
 use Rattle.device.specs.declared.Device.{Device}
-use Rattle.device.specs.Sound.{sound}
+use Rattle.soundness.specs.Sound.{sound}
 use Rattle.services.specs.declared.Numbers.{Numbers}
 
 -- the rows: the device record is unsound; the flash buffer has not its length; the reply buffer is under `least` bytes; the cut's filler

@@ -8,14 +8,14 @@ use borrow.Author.Tests.{eqb-true}
 use lib.Dec.{eqb, lit≤}
 use lib.ListN.{length, take, drop, length-take, length-drop, length-append, length-replicate, take-append-drop, drop-of-length-le, set, length-set}
 use lib.Seq.{take-at, drop-at, length-take-le, drop-drop, take-all, take-add, drop-append-le, set-out}
+use Rattle.basics.specs.Choice.{and-left}
 use Rattle.basics.specs.Words.{putAt, zeros}
 use Rattle.device.specs.declared.Head.{Head}
 use Rattle.device.specs.declared.Effect.{Effect}
 use Rattle.device.specs.declared.Effect.the-variants.{Keep, Drop, Lock, Put, Auth}
 use Rattle.device.specs.Kind.{freshHead, freshDevice}
 use Rattle.device.specs.Whole.{withHead, withLocks, withKey, putKey, fits, apply}
-use Rattle.device.specs.Sound.{sound}
-use Rattle.device.proofs.Laws.{and-left}
+use Rattle.soundness.specs.Sound.{sound}
 use Rattle.record.specs.Layout.{recordLength, locksAt, authAt, kindsAt, sizesAt, keysAt, part, locksIn, authIn, kindsIn, sizesIn, keysIn, headBytes, encode, decode, isHead, isRecord, soundRecord, keyPut, applied}
 
 -- a part, and what stands after it

@@ -5,17 +5,16 @@ use mathlib.Core.Bool.{Bool, true, false}
 use mathlib.Core.List.{List}
 use borrow.Author.Tests.{eq-eqb, ne-eqb, le-leb, lt-leb}
 use lib.ListN.{length}
-use Rattle.basics.specs.Choice.{pick}
+use Rattle.basics.specs.Choice.{pick, and-left, and-right}
 use Rattle.basics.specs.Words.{zeros}
 use Rattle.packet.specs.declared.Refusal.{Refusal}
 use Rattle.packet.specs.declared.Refusal.the-variants.{FlashLength, ReplyShort, FillerLength}
 use Rattle.packet.specs.Packets.{readOf}
-use Rattle.device.specs.Sound.{sound}
+use Rattle.soundness.specs.Sound.{sound}
 use Rattle.device.specs.Whole.{lost}
-use Rattle.device.proofs.Laws.{and-left, and-right}
 use Rattle.services.specs.declared.Numbers.{Numbers}
 use Rattle.services.specs.declared.Verdict.the-variants.{Taken, Refused}
-use Rattle.services.specs.Jobs.{hasJob}
+use Rattle.jobs.specs.Jobs.{hasJob}
 use Rattle.services.specs.Calls.{byReading, refused, handled, eventFor, restarted, workedOn, worked, restarting, cutIn, cutOff}
 use Rattle.services.proofs.Laws.{handled-by}
 use Rattle.record.specs.Layout.{encode, decode, Bytes, isRecord, soundRecord}

@@ -10,14 +10,13 @@ use borrow.Author.Tests.{eqb-true, leb-true, eq-eqb}
 use lib.Dec.{eqb, leb}
 use lib.ListN.{length, take, drop, length-append, take-append-drop}
 use lib.Seq.{take-at, take-all, drop-append-add, drop-cons}
-use Rattle.basics.specs.Choice.{pick}
+use Rattle.basics.specs.Choice.{pick, and-left, and-right}
 use Rattle.basics.specs.Words.{byteAt, wordAt, joined}
 use Rattle.device.specs.declared.Device.{Device}
 use Rattle.device.specs.declared.Mode.{Mode}
 use Rattle.device.specs.declared.Mode.the-variants.{Stack, Idle, Upgrade, Delete}
 use Rattle.device.specs.Whole.{Shaped}
-use Rattle.device.specs.Sound.{sound}
-use Rattle.device.proofs.Laws.{and-left, and-right}
+use Rattle.soundness.specs.Sound.{sound}
 use Rattle.record.specs.Layout.{recordLength, locksAt, flag, tagOf, pOf, sizeOf, versionOf, recordedOf, headBytes, encode, Word, Bounded, modeOf, headIn, locksIn, authIn, kindsIn, sizesIn, keysIn, decode, Bytes, isHead, isRecord, soundRecord}
 use Rattle.record.proofs.Laws.{after-head, head-length}
 

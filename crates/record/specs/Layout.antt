@@ -13,7 +13,7 @@ use Rattle.device.specs.declared.Mode.{Mode}
 use Rattle.device.specs.declared.Mode.the-variants.{Stack, Idle, Upgrade, Delete}
 use Rattle.device.specs.declared.Effect.{Effect}
 use Rattle.device.specs.declared.Effect.the-variants.{Keep, Drop, Lock, Put, Auth}
-use Rattle.device.specs.Sound.{sound}
+use Rattle.soundness.specs.Sound.{sound}
 
 abbrev pub recordLength : ℕ
 recordLength = 4853

@@ -4,7 +4,6 @@ use device::Head;
 use device::Look;
 use device::Mode;
 use device::Step;
-use device::soundness;
 use device::whole;
 ghost use mathlib.Core.Path.{_≡_};
 ghost use mathlib.Core.Bool.{true};

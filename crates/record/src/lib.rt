@@ -6,24 +6,19 @@ use device::Device;
 use device::Head;
 use device::Mode;
 use device::Step;
-use device::commands;
-use device::soundness;
 use packet::Command;
 use packet::Reading;
 use packet::Refusal;
 use services::Numbers;
 use services::Verdict;
-use services::jobs;
-use services::stores;
 ghost use mathlib.Core.Path.{_≡_};
 ghost use mathlib.Core.Bool.{true};
 ghost use Prim.Native.Nat.{_*_, _≤_};
 ghost use lib.ListN.{length};
 ghost use Rattle.basics.specs.Words.{zeros};
-ghost use Rattle.device.specs.Kind.{freshHead};
 ghost use Rattle.device.specs.Whole.{withHead, lost};
 ghost use Rattle.services.specs.Calls.{first, Sensible, Taking, checkedFor, stepFor, eventFor, answered, workedOn, cutIn};
-ghost use Rattle.services.specs.Jobs.{hasJob};
+ghost use Rattle.jobs.specs.Jobs.{hasJob};
 ghost use Rattle.record.specs.Layout.{recordLength, encode, decode};
 ghost use Rattle.record.specs.InPlace.{placed, restartPlaced, workPlaced, freshPlaced, inBytes, workInBytes, soundFor, freshInPlace, handledInPlace, restartedInPlace, workedInPlace, cutInPlace};
 
@@ -49,27 +44,6 @@ fn refuse(reply: &mut [u8], refusal: Refusal) -> Verdict
     Verdict::Refused(refusal)
 }
 
-fn fresh_head() -> Head
-    ensures { λ r. ⌜ r ≡ freshHead ⌝ }
-{
-    Head {
-        present: false,
-        version: 0xFFFF_FFFF,
-        sectors: 0,
-        boundary: Device::FUS_SECTOR as u32,
-        mode: Mode::Idle,
-        count: 0,
-        auth: false,
-        locked: false,
-        rollback: false,
-        floor: 0,
-        loaded: 0,
-        asked: false,
-        error: 0,
-        made: 0,
-    }
-}
-
 // A FRESH DEVICE's bytes; a record of another length is refused and stays as it is.
 pub fn fresh(rec: &mut [u8]) -> Verdict
     ensures { λ r. ⌜ freshPlaced r (now (rec .exit)) ≡ freshInPlace (now (rec .entry)) ⌝ }
@@ -78,7 +52,7 @@ pub fn fresh(rec: &mut [u8]) -> Verdict
         return Verdict::Refused(Refusal::UnsoundRecord);
     }
     packet::clear(rec);
-    layout::write_head(rec, fresh_head());
+    layout::write_head(rec, Head::fresh());
     Verdict::Taken
 }
 
@@ -90,7 +64,7 @@ fn decide(rec: &[u8], packet: &[u8], command: Command, checked: Checked) -> Step
     let first = packet::byte_at(packet, 4);
     let looked = layout::look_up(rec, first);
     let key = services::key_in(command, packet);
-    commands::decide(
+    decisions::decide(
         layout::read_head(rec),
         looked,
         checked,
@@ -216,7 +190,7 @@ fn work_on(k: Numbers, rec: &mut [u8], flash: &mut [u8]) -> WorkVerdict
 {
     let turn = jobs::work_turn(layout::read_head(rec), k.size, k.top);
     let store = turn.store;
-    stores::make(flash, k.size, store);
+    jobs::stores::make(flash, k.size, store);
     layout::advance(rec, turn.head, turn.ended);
     WorkVerdict {
         verdict: Verdict::Taken,
@@ -273,7 +247,7 @@ fn cut_on(
 {
     let turn = jobs::cut_turn(layout::read_head(rec), k.size, k.top, through);
     let store = turn.store;
-    stores::cut(flash, k.size, store, filler);
+    jobs::stores::cut(flash, k.size, store, filler);
     start(rec, turn.head, event);
 }
 

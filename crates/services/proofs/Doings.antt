@@ -1,6 +1,6 @@
 -- What a sound record with a job says of it, and what its stores do to the device.
 -- Assumes nothing.
-use Prim.Native.Nat.{ℕ, _+_, _-_, _*_, _≤_, _<_}
+use Prim.Native.Nat.{ℕ, _+_, _-_, _≤_, _<_}
 use mathlib.Core.Bool.{Bool, true, false, _&&_}
 use mathlib.Core.Path.{_≡_, refl, ap}
 use mathlib.Core.List.{List}
@@ -8,70 +8,27 @@ use native.Mathlib.Nat.{mul-le-mul-right, div-eq-of-lt}
 use native.Mathlib.Omega.{arith}
 use borrow.Author.Tests.{leb-true}
 use lib.Dec.{leb}
-use lib.ListN.{length}
-use Rattle.basics.specs.Choice.{pick}
+use Rattle.basics.specs.Choice.{pick, and-left, and-right}
 use Rattle.basics.specs.Words.{zeros}
 use Rattle.sectors.specs.Sectors.{sectorsFor}
-use Rattle.sectors.proofs.Laws.{reaches}
 use Rattle.image.specs.Images.{sizeLawful, versionLawful, roomFor}
 use Rattle.plan.specs.declared.Job.{Job}
-use Rattle.plan.specs.declared.Store.{Store}
-use Rattle.plan.specs.declared.Store.the-variants.{Erase, Write, Record, Last}
 use Rattle.plan.specs.Placement.{Able}
 use Rattle.plan.specs.Range.{InRange}
-use Rattle.plan.specs.Safe.{Safe}
 use Rattle.plan.specs.Stores.{Progress, going, ended, planOf, steps, wants, onward, cutShort, stored, spoilt}
-use Rattle.plan.proofs.Aims.{job-safe}
 use Rattle.plan.proofs.Done.{blocks-hold}
-use Rattle.plan.proofs.Due.{wants-is, Due, due}
 use Rattle.device.specs.declared.Head.{Head}
 use Rattle.device.specs.declared.Device.{Device}
 use Rattle.device.specs.declared.Mode.{Mode}
 use Rattle.device.specs.declared.Mode.the-variants.{Stack, Idle, Upgrade, Delete}
 use Rattle.device.specs.Whole.{withHead, withLocks}
-use Rattle.device.specs.Sound.{jobOf, planFor, progressSound, modeSound, sound}
-use Rattle.device.proofs.Laws.{and-left, and-right}
-use Rattle.device.proofs.Parts.{parts}
+use Rattle.soundness.specs.Sound.{jobOf, planFor, progressSound, modeSound, sound}
+use Rattle.soundness.proofs.Parts.{parts}
 use Rattle.services.specs.declared.Numbers.{Numbers}
 use Rattle.services.specs.declared.Verdict.the-variants.{Taken}
 use Rattle.services.specs.Calls.{Sensible, workResult, restarting, workedOn, cutIn}
-use Rattle.services.specs.Jobs.{hasJob, recordedIn, progressed, headAt, endedAt, nextStore, turnAt, workTurn, cutTurn, Within, Doing}
+use Rattle.jobs.specs.Jobs.{hasJob, recordedIn, progressed, headAt, endedAt, nextStore, workTurn, cutTurn, Doing}
 use Rattle.services.proofs.Laws.{boundary-some, boundary-low}
-
--- the new stack lies below FUS
-pub stack-low : (S top : ℕ) (h : Head) (p size version recorded : ℕ) → Doing S top h → h .mode ≡ Upgrade p size version recorded → (sectorsFor S size ≤ top) × (top ≤ 65536)
-stack-low S top h p size version recorded d e =
-    let room = rw e at (d .able .room) in
-    let under = rw e at (d .able .under) in
-    (omega arith, omega (arith, d .range .count))
-
-module _ {S top : ℕ} {h : Head} (d : Doing S top h) where
-  pub made-few : h .made ≤ 2
-  made-few = omega (arith, d .most, wants-is (planFor S top h) (recordedIn (h .mode)))
-
-  pub recorded-few : recordedIn (h .mode) ≤ 196608
-  unfolding planOf
-  recorded-few = omega (arith, d .low, d .able .room, d .able .under, d .range .count)
-
-  -- a turn is that of the next store
-  pub worked-as : (store : Store) (at : Progress) → store ≡ nextStore S top h → onward store (recordedIn (h .mode)) (h .made) ≡ at → turnAt S top h store at ≡ workTurn S top h
-  worked-as store at e f = rw (← f, e)
-
-  pub cut-as : (store : Store) (through : Bool) (at : Progress) → store ≡ nextStore S top h → cutShort store through (recordedIn (h .mode)) ≡ at → turnAt S top h store at ≡ cutTurn S top h through
-  cut-as store through at e f = rw (← f, e)
-
-  -- the next store lies within the lent flash
-  within-as : (N : ℕ) (F : List ℕ) → Safe S N (planFor S top h) → length F ≡ N * S → (store : Store) → Due (planFor S top h) (recordedIn (h .mode)) (h .made) store → Within S (length F) store
-  unfolding Due
-  within-as N F safe e (Erase t) (l, m, q) = rw q (reaches S N F e _ (safe .targets _ l))
-  within-as N F safe e (Write t s n) (l, m, q, r, u) =
-      rw (q, r, u) (reaches S N F e _ (safe .targets _ (omega arith)), reaches S N F e _ (safe .sources _ l), safe .whole _ l, safe .apart _ _ (omega arith) l)
-  within-as N F safe e Record q = tt
-  within-as N F safe e Last q = tt
-
-  pub within : (N : ℕ) (F : List ℕ) → top ≤ N → length F ≡ N * S → Within S (length F) (nextStore S top h)
-  within N F low e =
-      within-as N F (job-safe (d .able) low) e (nextStore S top h) (due (planFor S top h) (recordedIn (h .mode)) (h .made) (d .low) (d .most))
 
 -- the device at a point of its job, by its head and whether the locks are dropped
 progressed-by : (S top : ℕ) (d : Device) (at : Progress)

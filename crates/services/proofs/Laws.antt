@@ -10,7 +10,7 @@ use borrow.Author.Tests.{leb-true, le-leb, eq-eqb}
 use lib.Dec.{leb, eqb, lit≤}
 use lib.ListN.{length, take, drop, drop-of-length-le}
 use lib.Seq.{drop-length}
-use Rattle.basics.specs.Choice.{pick}
+use Rattle.basics.specs.Choice.{pick, and-left, and-right}
 use Rattle.packet.specs.declared.Command.{Command}
 use Rattle.packet.specs.declared.Command.the-variants.{UpdateAuthKey}
 use Rattle.packet.specs.declared.Reading.the-variants.{Lawful}
@@ -24,13 +24,12 @@ use Rattle.image.proofs.Laws.{from-there}
 use Rattle.image.proofs.Answers.{checked-erasable}
 use Rattle.device.specs.declared.Head.{Head}
 use Rattle.device.specs.declared.Device.{Device}
-use Rattle.device.specs.Commands.{searches}
-use Rattle.device.specs.Sound.{sound}
-use Rattle.device.proofs.Laws.{and-left, and-right}
-use Rattle.device.proofs.Parts.{parts}
+use Rattle.decisions.specs.Commands.{searches}
+use Rattle.soundness.specs.Sound.{sound}
+use Rattle.soundness.proofs.Parts.{parts}
 use Rattle.services.specs.declared.Numbers.{Numbers}
 use Rattle.services.specs.Calls.{first, Sensible, termsOf, checkedFor, keyIn, byReading, handled, restarting, cutIn, cutOff}
-use Rattle.services.specs.Jobs.{hasJob}
+use Rattle.jobs.specs.Jobs.{hasJob}
 
 -- the first kind's numbers
 pub first-sensible : Sensible first

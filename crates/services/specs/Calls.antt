@@ -28,13 +28,13 @@ use Rattle.device.specs.declared.Head.{Head}
 use Rattle.device.specs.declared.Step.{Step}
 use Rattle.device.specs.declared.Device.{Device}
 use Rattle.device.specs.Kind.{sectorSize, sectorCount, fusSector}
-use Rattle.device.specs.Commands.{searches, decided}
+use Rattle.decisions.specs.Commands.{searches, decided}
 use Rattle.device.specs.Whole.{look, carried, lost}
-use Rattle.device.specs.Sound.{stackRuns, planFor, sound}
+use Rattle.soundness.specs.Sound.{stackRuns, planFor, sound}
 use Rattle.services.specs.declared.Numbers.{Numbers}
 use Rattle.services.specs.declared.Verdict.{Verdict}
 use Rattle.services.specs.declared.Verdict.the-variants.{Taken, Refused}
-use Rattle.services.specs.Jobs.{hasJob, recordedIn, progressed, nextStore}
+use Rattle.jobs.specs.Jobs.{hasJob, recordedIn, progressed, nextStore}
 
 -- all that a call leaves behind: its answer, the next device, the next flash, the reply buffer (of the event, or the response)
 pub record Result : Type 0 where

@@ -1,21 +1,15 @@
 // The calls by value: handle a packet, restart, work (one store), cut.
-pub mod jobs;
-pub mod stores;
-
 use answer::Answer;
 use answer::Checked;
 use answer::Failure;
 use device::Device;
 use device::Head;
 use device::Step;
-use device::commands;
-use device::soundness;
 use device::whole;
 use image::Terms;
 use packet::Command;
 use packet::Reading;
 use packet::Refusal;
-use plan::Store;
 ghost use mathlib.Core.Path.{_≡_};
 ghost use Prim.Native.Nat.{_*_, _≤_};
 ghost use lib.ListN.{length};
@@ -49,14 +43,6 @@ pub struct Outcome {
 pub struct Worked {
     pub verdict: Verdict,
     pub device: Device,
-    pub left: usize,
-}
-
-// A store, whole or cut: the head after it, whether the job has ended, the store itself, and the stores still to do.
-pub struct Turn {
-    pub head: Head,
-    pub ended: bool,
-    pub store: Store,
     pub left: usize,
 }
 
@@ -107,7 +93,7 @@ pub fn look_for(k: Numbers, h: Head, command: Command, flash: &[u8], key: &[u8])
     ensures { λ r. ⌜ r ≡ checkedFor k h command (now (key .entry)) (now (flash .entry)) ⌝ }
 {
     let mode = h.mode;
-    if commands::searches(mode, command) {
+    if decisions::searches(mode, command) {
         let terms = Terms {
             boundary: h.boundary as usize,
             auth: h.auth,
@@ -126,7 +112,7 @@ fn decide(d: Device, packet: &[u8], command: Command, checked: Checked) -> Step
     let first = packet::byte_at(packet, 4);
     let looked = whole::look_up(&d.kinds, &d.locks, first);
     let key = key_in(command, packet);
-    commands::decide(d.head, looked, checked, command, first, key.len())
+    decisions::decide(d.head, looked, checked, command, first, key.len())
 }
 
 // The response to a command, written.
@@ -255,7 +241,7 @@ fn work_on(k: Numbers, d: Device, flash: &mut [u8]) -> Worked
 {
     let turn = jobs::work_turn(d.head, k.size, k.top);
     let store = turn.store;
-    stores::make(flash, k.size, store);
+    jobs::stores::make(flash, k.size, store);
     Worked {
         verdict: Verdict::Taken,
         device: advance(d, turn.head, turn.ended),
@@ -315,7 +301,7 @@ fn cut_on(
 {
     let turn = jobs::cut_turn(d.head, k.size, k.top, through);
     let store = turn.store;
-    stores::cut(flash, k.size, store, filler);
+    jobs::stores::cut(flash, k.size, store, filler);
     let head = turn.head;
     start(Device { head, ..d }, event)
 }

@@ -1,4 +1,4 @@
-use Rattle.device.proofs.Fits.{decided-fits}
+use Rattle.soundness.proofs.Fits.{decided-fits}
 use Rattle.services.proofs.Laws.{boundary-low, erasable, auth-bytes}
 use Rattle.record.specs.Layout.{decode}
 use borrow.Author.Needs.{needs}

@@ -1,5 +1,6 @@
 use mathlib.Core.Path.{ap}
-use Rattle.services.proofs.Doings.{doing, within, cut-by}
+use Rattle.services.proofs.Doings.{doing, cut-by}
+use Rattle.jobs.proofs.Turns.{within}
 use Rattle.record.specs.Layout.{decode}
 use Rattle.record.specs.InPlace.{inBytes}
 use Rattle.record.proofs.Laws.{record-length}

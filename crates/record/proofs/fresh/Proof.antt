@@ -12,8 +12,8 @@ returns c = search cases
 clear-requires : tie.Need-clear-requires
 clear-requires c κs = search needs
 
-fresh-head-requires : tie.Need-fresh-head-requires
-fresh-head-requires c κs = search needs
+fresh-requires : tie.Need-fresh-requires
+fresh-requires c κs = search needs
 
 write-head-requires : tie.Need-write-head-requires
 write-head-requires c κs = search needs
@@ -23,9 +23,9 @@ same-length c = search needs
 
 returns-2 : tie.Need-returns-2
 unfolding freshInPlace pick
-returns-2 c = rw (c .before .before .write-head .ensures, c .before .before .before .before .before .before .before .clear .ensures, c .before .before .before .fresh-head .ensures, c .before .before .before .before .before .before .before .before .before .if1 .left, put-fresh)
+returns-2 c = rw (c .before .before .write-head .ensures, c .before .before .before .before .before .before .before .clear .ensures, c .before .before .before .fresh .ensures, c .before .before .before .before .before .before .before .before .before .if1 .left, put-fresh)
 
 pub fresh-spec : {M : Type 1} → statement M
 fresh-spec =
     tie.close
-    (tie.spec returns clear-requires fresh-head-requires write-head-requires same-length returns-2)
+    (tie.spec returns clear-requires fresh-requires write-head-requires same-length returns-2)

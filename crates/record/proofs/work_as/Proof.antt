@@ -2,7 +2,7 @@ use mathlib.Core.Path.{_≡_, _∙_}
 use mathlib.Core.Bool.{true, false}
 use native.Mathlib.Omega.{arith}
 use Rattle.basics.specs.Choice.{via, via-not-false, cases}
-use Rattle.services.specs.Jobs.{hasJob}
+use Rattle.jobs.specs.Jobs.{hasJob}
 use Rattle.services.proofs.Laws.{few-bytes}
 use Rattle.record.specs.Layout.{decode, Bytes}
 use Rattle.record.specs.InPlace.{soundFor, workedInPlace}

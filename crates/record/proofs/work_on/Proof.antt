@@ -1,5 +1,6 @@
 use mathlib.Core.Path.{ap}
-use Rattle.services.proofs.Doings.{doing, within, worked-by}
+use Rattle.services.proofs.Doings.{doing, worked-by}
+use Rattle.jobs.proofs.Turns.{within}
 use Rattle.record.specs.Layout.{decode}
 use Rattle.record.specs.InPlace.{workInBytes}
 use Rattle.record.proofs.Laws.{record-length}

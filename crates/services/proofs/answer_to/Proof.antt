@@ -1,5 +1,5 @@
 use Rattle.services.proofs.Laws.{boundary-low, erasable, auth-bytes}
-use Rattle.device.proofs.Fits.{decided-fits}
+use Rattle.soundness.proofs.Fits.{decided-fits}
 use borrow.Author.Needs.{needs}
 use Rattle.services.proofs.answer_to.Statement.{statement}
 use Rattle.services.proofs.answer_to.Tie as tie

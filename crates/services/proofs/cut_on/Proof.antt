@@ -1,4 +1,5 @@
-use Rattle.services.proofs.Doings.{doing, within, cut-by}
+use Rattle.services.proofs.Doings.{doing, cut-by}
+use Rattle.jobs.proofs.Turns.{within}
 use borrow.Author.Needs.{needs}
 use Rattle.services.proofs.cut_on.Statement.{statement}
 use Rattle.services.proofs.cut_on.Tie as tie

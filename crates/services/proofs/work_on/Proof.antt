@@ -1,4 +1,5 @@
-use Rattle.services.proofs.Doings.{doing, within, worked-by}
+use Rattle.services.proofs.Doings.{doing, worked-by}
+use Rattle.jobs.proofs.Turns.{within}
 use borrow.Author.Needs.{needs}
 use Rattle.services.proofs.work_on.Statement.{statement}
 use Rattle.services.proofs.work_on.Tie as tie

@@ -5,12 +5,12 @@ use borrow.Author.Needs.{needs}
 use Rattle.device.proofs.Device.fresh.Statement.{statement}
 use Rattle.device.proofs.Device.fresh.Tie as tie
 
-cast-t1 : tie.Need-cast-t1
-cast-t1 c = search needs
+fresh-requires : tie.Need-fresh-requires
+fresh-requires c κs = search needs
 
 returns : tie.Need-returns
 unfolding freshDevice zeros
-returns c = refl
+returns c = rw (c .fresh .ensures) refl
 
 pub fresh-spec : {M : Type 1} → statement M
-fresh-spec = tie.close (tie.spec cast-t1 returns)
+fresh-spec = tie.close (tie.spec fresh-requires returns)

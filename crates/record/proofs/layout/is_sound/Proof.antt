@@ -1,5 +1,5 @@
 use borrow.Author.Tests.{eq-eqb, ne-eqb}
-use Rattle.device.specs.Sound.{sound}
+use Rattle.soundness.specs.Sound.{sound}
 use Rattle.record.specs.Layout.{soundRecord, decode}
 use borrow.Author.Needs.{needs}
 use Rattle.record.proofs.layout.is_sound.Statement.{statement}

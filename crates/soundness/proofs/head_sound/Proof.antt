@@ -1,0 +1,46 @@
+use Rattle.soundness.specs.Sound.{headSound}
+use borrow.Author.Needs.{needs}
+use Rattle.soundness.proofs.head_sound.Statement.{statement}
+use Rattle.soundness.proofs.head_sound.Tie as tie
+
+stack-sound-requires : tie.Need-stack-sound-requires
+stack-sound-requires c κs = search needs
+
+stack-runs-requires : tie.Need-stack-runs-requires
+stack-runs-requires c κs = search needs
+
+parts-sound-requires : tie.Need-parts-sound-requires
+parts-sound-requires c κs = search needs
+
+is-idle-requires : tie.Need-is-idle-requires
+is-idle-requires c κs = search needs
+
+error-sound-requires : tie.Need-error-sound-requires
+error-sound-requires c κs = search needs
+
+mode-sound-requires : tie.Need-mode-sound-requires
+mode-sound-requires c κs = search needs
+
+returns : tie.Need-returns
+unfolding headSound
+returns c =
+    rw (
+      c .before .before .before .before .before .stack-sound .ensures,
+      c .before .before .before .parts-sound .ensures,
+      c .before .before .before .before .stack-runs .ensures,
+      c .before .error-sound .ensures,
+      c .before .before .is-idle .ensures,
+      c .mode-sound .ensures,
+    )
+
+pub head-sound-spec : {M : Type 1} → statement M
+head-sound-spec =
+    tie.close
+    (tie.spec
+    stack-sound-requires
+    stack-runs-requires
+    parts-sound-requires
+    is-idle-requires
+    error-sound-requires
+    mode-sound-requires
+    returns)

@@ -1,0 +1,191 @@
+// Is a device sound? `size` is the size of a sector, `top` the first sector of FUS.
+use device::Device;
+use device::Head;
+use device::Mode;
+use plan::Job;
+ghost use mathlib.Core.Path.{_≡_};
+ghost use Prim.Native.Nat.{_≤_, _<_};
+ghost use lib.Dec.{ltb};
+ghost use lib.ListN.{length};
+ghost use Rattle.basics.specs.Choice.{pick};
+ghost use Rattle.plan.specs.Range.{InRange};
+ghost use Rattle.plan.specs.Stores.{planOf};
+ghost use Rattle.soundness.specs.Sound.{stackRuns, stackSound, partsSound, errorSound, progressSound, modeSound, headSound, slotSound, slotsSound, loadedSound, keysSound, sound};
+
+pub fn stack_runs(mode: Mode) -> bool
+    ensures { λ r. ⌜ r ≡ stackRuns mode ⌝ }
+{
+    match mode {
+        Mode::Stack => true,
+        Mode::Idle => false,
+        Mode::Upgrade {
+            p: _,
+            size: _,
+            version: _,
+            recorded: _,
+        } => false,
+        Mode::Delete { recorded: _ } => false,
+    }
+}
+
+fn stack_sound(h: Head, top: usize) -> bool
+    ensures { λ r. ⌜ r ≡ stackSound top h ⌝ }
+{
+    let boundary = h.boundary as usize;
+    (1 <= boundary)
+        & (boundary <= top)
+        & (h.present == (boundary != top))
+        & (h.present == (h.version != 0xFFFF_FFFF))
+        & (h.sectors as usize + boundary == top)
+}
+
+fn parts_sound(h: Head, runs: bool) -> bool
+    ensures { λ r. ⌜ r ≡ partsSound h runs ⌝ }
+{
+    (!h.locked | h.auth)
+        & (!h.asked | runs)
+        & (h.rollback | (h.floor == 0))
+        & (h.count <= 100)
+        & (h.loaded <= h.count)
+}
+
+fn error_sound(error: u8, idle: bool) -> bool
+    ensures { λ r. ⌜ r ≡ errorSound error idle ⌝ }
+{
+    (error == 0)
+        | (idle
+            & ((error == 0x01)
+                | (error == 0x02)
+                | (error == 0x03)
+                | (error == 0x04)
+                | (error == 0x0A)
+                | (error == 0x11)
+                | (error == 0xFF)))
+}
+
+// How many stores may be made in the sector that is recorded next.
+fn may_make(recorded: usize, moved: usize, steps: usize) -> u8
+    ensures { λ r. ⌜ r ≡ pick (ltb recorded moved) 2 (pick (ltb recorded steps) 1 0) ⌝ }
+{
+    if recorded < moved {
+        return 2;
+    }
+    if recorded < steps {
+        return 1;
+    }
+    0
+}
+
+fn progress_sound(size: usize, top: usize, job: Job, recorded: u32, made: u8) -> bool
+    requires { ⌜ InRange size top job ⌝ }
+    ensures { λ r. ⌜ r ≡ progressSound (planOf size top job) recorded made ⌝ }
+{
+    let moved = plan::blocks(job, size);
+    let steps = moved + plan::cleared_count(job, size, top);
+    let done = recorded as usize;
+    (done <= steps) & (made <= may_make(done, moved, steps))
+}
+
+fn mode_sound(size: usize, top: usize, mode: Mode, present: bool, boundary: u32, made: u8) -> bool
+    requires { ⌜ (0 < size) × (size ≤ 65536) ⌝ }
+    requires { ⌜ top ≤ 65536 ⌝ }
+    ensures { λ r. ⌜ r ≡ modeSound size top mode present boundary made ⌝ }
+{
+    let end = boundary as usize;
+    match mode {
+        Mode::Stack => present & (made == 0),
+        Mode::Idle => made == 0,
+        Mode::Upgrade {
+            p,
+            size: bytes,
+            version,
+            recorded,
+        } => {
+            let job = Job {
+                p: p as usize,
+                size: bytes as usize,
+                boundary: end,
+            };
+            ((84 <= bytes) & (bytes % 4 == 0))
+                & (version != 0xFFFF_FFFF)
+                & (p as usize + sectors::sectors_for(bytes, size) + 1 <= end)
+                & progress_sound(size, top, job, recorded, made)
+        }
+        Mode::Delete { recorded } => {
+            let job = Job {
+                p: 0,
+                size: 0,
+                boundary: end,
+            };
+            present & progress_sound(size, top, job, recorded, made)
+        }
+    }
+}
+
+// All that the head says.
+pub fn head_sound(h: Head, size: usize, top: usize) -> bool
+    requires { ⌜ (0 < size) × (size ≤ 65536) ⌝ }
+    requires { ⌜ top ≤ 65536 ⌝ }
+    ensures { λ r. ⌜ r ≡ headSound size top h ⌝ }
+{
+    let mode = h.mode;
+    stack_sound(h, top)
+        & parts_sound(h, stack_runs(mode))
+        & error_sound(h.error, decisions::is_idle(mode))
+        & mode_sound(size, top, mode, h.present, h.boundary, h.made)
+}
+
+fn slot_sound(i: u8, count: u8, kind: u8, size: u8, lock: u8) -> bool
+    ensures { λ r. ⌜ r ≡ slotSound i count kind size lock ⌝ }
+{
+    let lawful = decisions::key_lawful(kind, size as usize);
+    ((kind == 0) & (size == 0) & (lock == 0) & ((i == 0) | (count < i)))
+        | ((kind == 2) & lawful & (lock == 0) & (i == 0))
+        | (((kind == 1) | (kind == 3)) & lawful & (lock <= 1) & (1 <= i) & (i <= count))
+}
+
+// The slots as three arrays of a device, or as three parts of a record's bytes. A byte counts and no test ends the loop, so it runs in lanes of bytes.
+fn slots_sound<'a>(count: u8, kinds: &'a [u8], sizes: &'a [u8], locks: &'a [u8]) -> bool
+    requires { ⌜ (length (now kinds) ≡ 101) × ((length (now sizes) ≡ 101) × (length (now locks) ≡ 101)) ⌝ }
+    ensures { λ r. ⌜ r ≡ slotsSound count (now (kinds .entry)) (now (sizes .entry)) (now (locks .entry)) ⌝ }
+{
+    let mut ok = true;
+    let mut i: u8 = 0;
+    while i < 101 {
+        let at = i as usize;
+        ok = ok & slot_sound(i, count, kinds[at], sizes[at], locks[at]);
+        i += 1;
+    }
+    ok
+}
+
+fn loaded_sound(kind: u8, master: u8) -> bool
+    ensures { λ r. ⌜ r ≡ loadedSound kind master ⌝ }
+{
+    (kind != 3) | (master == 2)
+}
+
+// All that the arrays say.
+pub fn keys_sound<'a>(
+    count: u8,
+    loaded: u8,
+    kinds: &'a [u8],
+    sizes: &'a [u8],
+    locks: &'a [u8],
+) -> bool
+    requires { ⌜ (length (now kinds) ≡ 101) × ((length (now sizes) ≡ 101) × (length (now locks) ≡ 101)) ⌝ }
+    ensures { λ r. ⌜ r ≡ keysSound count loaded (now (kinds .entry)) (now (sizes .entry)) (now (locks .entry)) ⌝ }
+{
+    let slots = slots_sound(count, kinds, sizes, locks);
+    let kind = packet::byte_at(kinds, loaded as usize);
+    slots & loaded_sound(kind, packet::byte_at(kinds, 0))
+}
+
+pub fn is_sound(d: Device, size: usize, top: usize) -> bool
+    requires { ⌜ (0 < size) × (size ≤ 65536) ⌝ }
+    requires { ⌜ top ≤ 65536 ⌝ }
+    ensures { λ r. ⌜ r ≡ sound size top d ⌝ }
+{
+    let h = d.head;
+    head_sound(h, size, top) & keys_sound(h.count, h.loaded, &d.kinds, &d.sizes, &d.locks)
+}
