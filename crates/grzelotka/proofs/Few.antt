@@ -18,7 +18,7 @@ use Rattle.jobs.specs.Jobs.{hasJob, Doing}
 use Rattle.services.specs.Calls.{Sensible, first, lent, workResult, workedOn, worked}
 use Rattle.services.proofs.Doings.{doing}
 use Rattle.services.proofs.Laws.{first-sensible}
-use Rattle.record.specs.Layout.{decode}
+use Rattle.layout.specs.Layout.{decode}
 use Rattle.record.specs.InPlace.{workPlaced, workInBytes, soundFor, workedInPlace}
 
 few-at : (S top : ℕ) (h : Head) → Doing S top h → (at : Progress) → leftAt (planFor S top h) at ≤ 4294967295

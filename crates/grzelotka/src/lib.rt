@@ -8,7 +8,7 @@ ghost use lib.ListN.{length};
 ghost use Rattle.packet.specs.Packets.{readOf};
 ghost use Rattle.packet.specs.Message.{nextMessage};
 ghost use Rattle.services.specs.Calls.{first};
-ghost use Rattle.record.specs.Layout.{recordLength};
+ghost use Rattle.layout.specs.Layout.{recordLength};
 ghost use Rattle.record.specs.InPlace.{freshInPlace, handledInPlace, restartedInPlace, workedInPlace, cutInPlace};
 ghost use Rattle.grzelotka.specs.Numbers.{numberFor, readNumber, readOpcode, readLength};
 

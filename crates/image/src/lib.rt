@@ -4,7 +4,6 @@ use answer::Failure;
 ghost use mathlib.Core.Path.{_≡_};
 ghost use Prim.Native.Nat.{_+_, _-_, _*_, _≤_, _<_};
 ghost use lib.ListN.{length};
-ghost use Rattle.basics.specs.Words.{joined, wordAt};
 ghost use Rattle.image.specs.Sums.{sumOf, begins};
 ghost use Rattle.image.specs.Images.{find, headerOf, headerLawful, roomFor, tagKeyIs, tagLawful, floorLawful, judged, checkedOf, Erasable, flashAfter};
 
@@ -68,21 +67,6 @@ pub fn find_image(flash: &[u8], size: usize, boundary: usize) -> Found
     Found::Nowhere
 }
 
-// Four bytes as a number, low byte first.
-fn word(a: u8, b: u8, c: u8, d: u8) -> u32
-    ensures { λ r. ⌜ r ≡ joined a b c d ⌝ }
-{
-    (a as u32) + 256 * (b as u32) + 65536 * (c as u32) + 16777216 * (d as u32)
-}
-
-// The word that starts at `at`.
-fn word_at(part: &[u8], at: usize) -> u32
-    requires { ⌜ at + 4 ≤ length (now part) ⌝ }
-    ensures { λ r. ⌜ r ≡ wordAt (now (part .entry)) at ⌝ }
-{
-    word(part[at], part[at + 1], part[at + 2], part[at + 3])
-}
-
 // The header of the image that `part` begins with.
 fn read_header(part: &[u8]) -> Header
     requires { ⌜ 84 ≤ length (now part) ⌝ }
@@ -92,9 +76,9 @@ fn read_header(part: &[u8]) -> Header
         kind: part[5],
         seal: part[6],
         tag: part[7],
-        size: word_at(part, 8),
-        version: word_at(part, 12),
-        sum: word_at(part, 16),
+        size: basics::word_at(part, 8),
+        version: basics::word_at(part, 12),
+        sum: basics::word_at(part, 16),
     }
 }
 
@@ -105,7 +89,10 @@ pub fn image_sum(body: &[u8]) -> u32
     let mut sum: u32 = 0;
     let mut i = 0;
     while 4 <= body.len() - i {
-        sum = std::num::wrapping_add_u32(sum, word(body[i], body[i + 1], body[i + 2], body[i + 3]));
+        sum = std::num::wrapping_add_u32(
+            sum,
+            basics::word(body[i], body[i + 1], body[i + 2], body[i + 3]),
+        );
         i += 4;
     }
     sum

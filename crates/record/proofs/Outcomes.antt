@@ -17,9 +17,9 @@ use Rattle.services.specs.declared.Verdict.the-variants.{Taken, Refused}
 use Rattle.jobs.specs.Jobs.{hasJob}
 use Rattle.services.specs.Calls.{byReading, refused, handled, eventFor, restarted, workedOn, worked, restarting, cutIn, cutOff}
 use Rattle.services.proofs.Laws.{handled-by}
-use Rattle.record.specs.Layout.{encode, decode, Bytes, isRecord, soundRecord}
+use Rattle.layout.specs.Layout.{encode, decode, Bytes, isRecord, soundRecord}
 use Rattle.record.specs.InPlace.{placed, restartPlaced, workPlaced, inBytes, workInBytes, soundFor, handledInPlace, restartedInPlace, workedInPlace, cutInPlace}
-use Rattle.record.proofs.RoundTrip.{encode-decode}
+use Rattle.layout.proofs.RoundTrip.{encode-decode}
 
 module _ (k : Numbers) (l : List ℕ) (s : soundFor k l ≡ true) where
   -- a sound record's bytes are a sound device's

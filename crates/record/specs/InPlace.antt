@@ -13,7 +13,7 @@ use Rattle.services.specs.declared.Numbers.{Numbers}
 use Rattle.services.specs.declared.Verdict.{Verdict}
 use Rattle.services.specs.declared.Verdict.the-variants.{Taken, Refused}
 use Rattle.services.specs.Calls.{Result, RestartResult, WorkResult, handled, restarted, worked, cutOff}
-use Rattle.record.specs.Layout.{recordLength, encode, decode, soundRecord}
+use Rattle.layout.specs.Layout.{recordLength, encode, decode, soundRecord}
 
 -- all that a call leaves behind: its answer, the record's bytes, the flash, the reply buffer
 pub record Placed : Type 0 where

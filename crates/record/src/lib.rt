@@ -1,10 +1,6 @@
 // The calls on the record's bytes, in place: the same outcome as the calls by value on the device that they are.
-pub mod layout;
-
 use answer::Checked;
-use device::Device;
 use device::Head;
-use device::Mode;
 use device::Step;
 use packet::Command;
 use packet::Reading;
@@ -19,7 +15,7 @@ ghost use Rattle.basics.specs.Words.{zeros};
 ghost use Rattle.device.specs.Whole.{withHead, lost};
 ghost use Rattle.services.specs.Calls.{first, Sensible, Taking, checkedFor, stepFor, eventFor, answered, workedOn, cutIn};
 ghost use Rattle.jobs.specs.Jobs.{hasJob};
-ghost use Rattle.record.specs.Layout.{recordLength, encode, decode};
+ghost use Rattle.layout.specs.Layout.{recordLength, encode, decode};
 ghost use Rattle.record.specs.InPlace.{placed, restartPlaced, workPlaced, freshPlaced, inBytes, workInBytes, soundFor, freshInPlace, handledInPlace, restartedInPlace, workedInPlace, cutInPlace};
 
 // What work answers: also the stores still to do.

@@ -1,6 +1,6 @@
 use Rattle.soundness.proofs.Fits.{decided-fits}
 use Rattle.services.proofs.Laws.{boundary-low, erasable, auth-bytes}
-use Rattle.record.specs.Layout.{decode}
+use Rattle.layout.specs.Layout.{decode}
 use borrow.Author.Needs.{needs}
 use Rattle.record.proofs.answer_to.Statement.{statement}
 use Rattle.record.proofs.answer_to.Tie as tie

@@ -1,4 +1,4 @@
-use Rattle.record.specs.Layout.{decode}
+use Rattle.layout.specs.Layout.{decode}
 use borrow.Author.Needs.{needs}
 use Rattle.record.proofs.decide.Statement.{statement}
 use Rattle.record.proofs.decide.Tie as tie

@@ -1,6 +1,6 @@
 use Rattle.basics.specs.Choice.{pick, cases}
 use Rattle.record.specs.InPlace.{freshInPlace}
-use Rattle.record.proofs.Laws.{put-fresh}
+use Rattle.layout.proofs.Laws.{put-fresh}
 use borrow.Author.Needs.{needs}
 use Rattle.record.proofs.fresh.Statement.{statement}
 use Rattle.record.proofs.fresh.Tie as tie

@@ -5,9 +5,9 @@ use Rattle.basics.specs.Choice.{via-not-false, cases}
 use Rattle.packet.specs.declared.Reading.{Reading}
 use Rattle.services.specs.Calls.{byReading}
 use Rattle.services.proofs.Laws.{few-bytes}
-use Rattle.record.specs.Layout.{decode, Bytes}
+use Rattle.layout.specs.Layout.{decode, Bytes}
 use Rattle.record.specs.InPlace.{inBytes, soundFor, handledInPlace}
-use Rattle.record.proofs.Laws.{record-length}
+use Rattle.layout.proofs.Laws.{record-length}
 use Rattle.record.proofs.Outcomes.{sound-in, refused-in, handled-flash, handled-reply, handled-read}
 use borrow.Author.Needs.{needs}
 use Rattle.record.proofs.handle_as.Statement.{statement}

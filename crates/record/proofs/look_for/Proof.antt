@@ -1,4 +1,4 @@
-use Rattle.record.specs.Layout.{decode}
+use Rattle.layout.specs.Layout.{decode}
 use borrow.Author.Needs.{needs}
 use Rattle.record.proofs.look_for.Statement.{statement}
 use Rattle.record.proofs.look_for.Tie as tie

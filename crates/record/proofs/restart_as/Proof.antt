@@ -2,9 +2,9 @@ use mathlib.Core.Path.{_≡_}
 use mathlib.Core.Bool.{true}
 use native.Mathlib.Omega.{arith}
 use Rattle.basics.specs.Choice.{via-not-false, cases}
-use Rattle.record.specs.Layout.{decode, Bytes}
+use Rattle.layout.specs.Layout.{decode, Bytes}
 use Rattle.record.specs.InPlace.{soundFor, restartedInPlace}
-use Rattle.record.proofs.Laws.{record-length}
+use Rattle.layout.proofs.Laws.{record-length}
 use Rattle.record.proofs.Outcomes.{restarted-reply, restarted-taken}
 use borrow.Author.Needs.{needs}
 use Rattle.record.proofs.restart_as.Statement.{statement}
