@@ -1,3 +1,4 @@
 pub mod Heads
 pub mod Kind
+pub mod Steps
 pub mod Whole

@@ -3,9 +3,11 @@
 pub mod whole;
 
 use answer::Answer;
+use answer::Failure;
 ghost use mathlib.Core.Path.{_≡_};
 ghost use Rattle.device.specs.Kind.{sectorSize, sectorCount, fusSector, flashLength, freshHead, freshDevice};
 ghost use Rattle.device.specs.Heads.{lostHead};
+ghost use Rattle.device.specs.Steps.{failed, accepted};
 
 // Which program runs, and the job: the stack, or FUS, idle or with a job of which some sectors are recorded.
 pub enum Mode {
@@ -157,6 +159,33 @@ impl Head {
             error: 0,
             made: 0,
             ..self
+        }
+    }
+}
+
+impl Step {
+    // The command fails: its error becomes pending.
+    pub fn failed(h: Head, failure: Failure) -> Step
+        ensures { λ r. ⌜ r ≡ failed h failure ⌝ }
+    {
+        Step {
+            head: Head {
+                error: answer::error_of(failure),
+                ..h
+            },
+            answer: Answer::Failed(failure),
+            effect: Effect::Keep,
+        }
+    }
+
+    // The command is accepted: the pending error is cleared.
+    pub fn accepted(next: Head, answer: Answer, effect: Effect) -> Step
+        ensures { λ r. ⌜ r ≡ accepted next answer effect ⌝ }
+    {
+        Step {
+            head: Head { error: 0, ..next },
+            answer,
+            effect,
         }
     }
 }

@@ -26,7 +26,7 @@ fn number_for(verdict: Verdict) -> u8
 pub extern "C" fn grzelotka_record_bytes() -> usize
     ensures { λ r. ⌜ r ≡ recordLength ⌝ }
 {
-    record::layout::LENGTH
+    layout::LENGTH
 }
 
 #[no_mangle]

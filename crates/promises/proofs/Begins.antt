@@ -30,7 +30,9 @@ use Rattle.device.specs.declared.Effect.the-variants.{Keep, Drop, Lock, Put, Au
 use Rattle.device.specs.declared.Device.{Device}
 use Rattle.device.specs.declared.Mode.{Mode}
 use Rattle.device.specs.declared.Mode.the-variants.{Stack, Idle, Upgrade, Delete}
-use Rattle.decisions.specs.Commands.{isGetState, stackRunning, jobUnderWay, typeLawful, keyLawful, storedKey, storeKey, loadKey, upgrade, idle, situated, decided}
+use Rattle.keys.specs.Keys.{typeLawful, keyLawful, storedKey, storeKey, loadKey}
+use Rattle.commands.specs.Commands.{isGetState, stackRunning, jobUnderWay, upgrade}
+use Rattle.decisions.specs.Decisions.{idle, situated, decided}
 use Rattle.device.specs.Whole.{Shaped, look, withHead, apply, carried}
 use Rattle.soundness.specs.Sound.{modeSound, sound}
 use Rattle.soundness.proofs.Parts.{parts}

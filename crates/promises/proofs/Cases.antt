@@ -9,7 +9,9 @@ use Rattle.packet.specs.Packets.{commandOf, readOf}
 use Rattle.packet.specs.Replies.{response, event, replied}
 use Rattle.plan.specs.Placement.{those, cleared}
 use Rattle.device.specs.Kind.{freshDevice}
-use Rattle.decisions.specs.Commands.{stackRunning, storeKey, decided}
+use Rattle.keys.specs.Keys.{storeKey}
+use Rattle.commands.specs.Commands.{stackRunning}
+use Rattle.decisions.specs.Decisions.{decided}
 use Rattle.soundness.specs.Sound.{headSound, allBelow, slotsSound, sound}
 use Rattle.services.specs.Calls.{restarted}
 use Rattle.promises.specs.Cases.{every, table, holds, talked, stacked}

@@ -29,7 +29,7 @@ use Rattle.device.specs.declared.Device.{Device}
 use Rattle.device.specs.declared.Mode.{Mode}
 use Rattle.device.specs.declared.Mode.the-variants.{Stack, Idle, Upgrade, Delete}
 use Rattle.device.specs.Heads.{lostHead}
-use Rattle.decisions.specs.Commands.{isIdle, searches}
+use Rattle.decisions.specs.Decisions.{isIdle, searches}
 use Rattle.device.specs.Whole.{Shaped, lost}
 use Rattle.soundness.specs.Sound.{jobOf, planFor, errorSound, progressSound, modeSound, CheckedLawful, sound}
 use Rattle.soundness.proofs.Parts.{Numbers as HeadSays, Keys, Parts, parts, whole}

@@ -18,7 +18,7 @@ use Rattle.device.specs.declared.Mode.the-variants.{Upgrade}
 use Rattle.device.specs.Heads.{withError, withMode}
 use Rattle.device.specs.Whole.{withHead}
 use Rattle.device.specs.Kind.{sectorSize, fusSector, flashLength, freshHead, freshDevice}
-use Rattle.decisions.specs.Commands.{decided as decidedOn}
+use Rattle.decisions.specs.Decisions.{decided as decidedOn}
 use Rattle.soundness.specs.Sound.{headSound, allBelow, slotsSound, sound}
 use Rattle.services.specs.declared.Verdict.the-variants.{Taken}
 use Rattle.services.specs.Calls.{first, result, lent, termsOf, handled}

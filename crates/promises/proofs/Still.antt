@@ -20,7 +20,8 @@ use Rattle.device.specs.declared.Look.{Look}
 use Rattle.device.specs.declared.Device.{Device}
 use Rattle.device.specs.declared.Mode.{Mode}
 use Rattle.device.specs.declared.Mode.the-variants.{Stack, Idle, Upgrade, Delete}
-use Rattle.decisions.specs.Commands.{isGetState, jobUnderWay, situated, decided, searches}
+use Rattle.commands.specs.Commands.{isGetState, jobUnderWay}
+use Rattle.decisions.specs.Decisions.{situated, decided, searches}
 use Rattle.device.specs.Whole.{carried}
 use Rattle.soundness.specs.Sound.{sound}
 use Rattle.services.specs.declared.Numbers.{Numbers}

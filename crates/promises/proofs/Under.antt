@@ -13,7 +13,7 @@ use Rattle.device.specs.declared.Mode.{Mode}
 use Rattle.device.specs.declared.Mode.the-variants.{Stack, Idle, Upgrade, Delete}
 use Rattle.device.specs.Heads.{withMade, withMode, lostHead}
 use Rattle.device.specs.Whole.{lost}
-use Rattle.decisions.specs.Commands.{isIdle}
+use Rattle.decisions.specs.Decisions.{isIdle}
 use Rattle.image.specs.Images.{sizeLawful, versionLawful, roomFor}
 use Rattle.soundness.specs.Sound.{stackRuns, jobOf, planFor, stackSound, partsSound, errorSound, progressSound, modeSound, headSound, keysSound, sound}
 use Rattle.jobs.specs.Jobs.{hasJob, recordedIn, withRecorded, committed, progressed, finished}

@@ -24,7 +24,7 @@ use Rattle.image.proofs.Laws.{from-there}
 use Rattle.image.proofs.Answers.{checked-erasable}
 use Rattle.device.specs.declared.Head.{Head}
 use Rattle.device.specs.declared.Device.{Device}
-use Rattle.decisions.specs.Commands.{searches}
+use Rattle.decisions.specs.Decisions.{searches}
 use Rattle.soundness.specs.Sound.{sound}
 use Rattle.soundness.proofs.Parts.{parts}
 use Rattle.services.specs.declared.Numbers.{Numbers}

@@ -28,7 +28,7 @@ use Rattle.device.specs.declared.Head.{Head}
 use Rattle.device.specs.declared.Step.{Step}
 use Rattle.device.specs.declared.Device.{Device}
 use Rattle.device.specs.Kind.{sectorSize, sectorCount, fusSector}
-use Rattle.decisions.specs.Commands.{searches, decided}
+use Rattle.decisions.specs.Decisions.{searches, decided}
 use Rattle.device.specs.Whole.{look, carried, lost}
 use Rattle.soundness.specs.Sound.{stackRuns, planFor, sound}
 use Rattle.services.specs.declared.Numbers.{Numbers}

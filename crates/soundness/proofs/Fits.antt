@@ -22,7 +22,9 @@ use Rattle.device.specs.declared.Effect.the-variants.{Keep, Drop, Lock, Put, Au
 use Rattle.device.specs.declared.Mode.{Mode}
 use Rattle.device.specs.declared.Mode.the-variants.{Stack, Idle, Upgrade, Delete}
 use Rattle.device.specs.Kind.{freshDevice}
-use Rattle.decisions.specs.Commands.{isGetState, stackRunning, jobUnderWay, typeLawful, keyLawful, storeKey, storedKey, loadKey, upgrade, idle, situated, decided}
+use Rattle.keys.specs.Keys.{typeLawful, keyLawful, storeKey, storedKey, loadKey}
+use Rattle.commands.specs.Commands.{isGetState, stackRunning, jobUnderWay, upgrade}
+use Rattle.decisions.specs.Decisions.{idle, situated, decided}
 use Rattle.device.specs.Whole.{Shaped, withHead, fits, apply, carried, lost}
 use Rattle.device.proofs.Laws.{room}
 use Rattle.soundness.proofs.Laws.{chosen}

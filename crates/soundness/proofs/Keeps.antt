@@ -23,7 +23,10 @@ use Rattle.device.specs.declared.Mode.{Mode}
 use Rattle.device.specs.declared.Mode.the-variants.{Stack, Idle, Upgrade, Delete}
 use Rattle.device.specs.Kind.{sectorSize, fusSector, freshDevice}
 use Rattle.device.specs.Heads.{withLoaded, withCount, withMode, withAuth, withLocked, withFloor, lostHead}
-use Rattle.decisions.specs.Commands.{isGetState, failed, stackRunning, jobUnderWay, getState, deleteStack, startStack, updateAuth, lockAuth, typeLawful, keyLawful, storeKey, storedKey, loadKey, lockKey, unloadKey, antirollback, upgrade, idle, situated, decided}
+use Rattle.device.specs.Steps.{failed}
+use Rattle.keys.specs.Keys.{typeLawful, keyLawful, storeKey, storedKey, loadKey, lockKey, unloadKey}
+use Rattle.commands.specs.Commands.{isGetState, stackRunning, jobUnderWay, getState, deleteStack, startStack, updateAuth, lockAuth, antirollback, upgrade}
+use Rattle.decisions.specs.Decisions.{idle, situated, decided}
 use Rattle.device.specs.Whole.{Shaped, look, carried, lost}
 use Rattle.soundness.specs.Sound.{CheckedLawful, stackRuns, errorSound, modeSound, headSound, slotsSound, allBelow, sound}
 use Rattle.soundness.proofs.Laws.{chosen}

@@ -9,7 +9,7 @@ use lib.Dec.{eqb}
 use lib.ListN.{getD, set, length}
 use lib.Seq.{getD-set-same, getD-set-other}
 use Rattle.basics.specs.Words.{zeros}
-use Rattle.decisions.specs.Commands.{keyLawful, typeLawful}
+use Rattle.keys.specs.Keys.{keyLawful, typeLawful}
 use Rattle.soundness.specs.Sound.{loadedSound}
 use Rattle.soundness.proofs.Slots.{Slot, none, master, user, unlocked, locked, another, next-free, master-free}
 use Rattle.soundness.proofs.Parts.{Keys}

@@ -6,7 +6,7 @@ use native.Mathlib.Omega.{arith}
 use borrow.Author.Tests.{leb-true, le-leb, ltb-true, lt-ltb, eqb-true, eq-eqb}
 use lib.Dec.{leb, ltb, eqb}
 use Rattle.basics.specs.Choice.{and-left, and-right, or-either}
-use Rattle.decisions.specs.Commands.{keyLawful}
+use Rattle.keys.specs.Keys.{keyLawful}
 use Rattle.soundness.specs.Sound.{slotSound}
 
 -- a slot holds nothing, the master, or a user key

@@ -14,7 +14,8 @@ use Rattle.device.specs.declared.Head.{Head}
 use Rattle.device.specs.declared.Device.{Device}
 use Rattle.device.specs.declared.Mode.{Mode}
 use Rattle.device.specs.declared.Mode.the-variants.{Stack, Idle, Upgrade, Delete}
-use Rattle.decisions.specs.Commands.{keyLawful, isIdle}
+use Rattle.keys.specs.Keys.{keyLawful}
+use Rattle.decisions.specs.Decisions.{isIdle}
 
 abbrev pub stackRuns : Mode → Bool
 stackRuns Stack = true

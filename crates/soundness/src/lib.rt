@@ -138,7 +138,7 @@ pub fn head_sound(h: Head, size: usize, top: usize) -> bool
 fn slot_sound(i: u8, count: u8, kind: u8, size: u8, lock: u8) -> bool
     ensures { λ r. ⌜ r ≡ slotSound i count kind size lock ⌝ }
 {
-    let lawful = decisions::key_lawful(kind, size as usize);
+    let lawful = keys::key_lawful(kind, size as usize);
     ((kind == 0) & (size == 0) & (lock == 0) & ((i == 0) | (count < i)))
         | ((kind == 2) & lawful & (lock == 0) & (i == 0))
         | (((kind == 1) | (kind == 3)) & lawful & (lock <= 1) & (1 <= i) & (i <= count))

@@ -1,4 +1,4 @@
-use Rattle.decisions.specs.Commands.{decided}
+use Rattle.decisions.specs.Decisions.{decided}
 use borrow.Author.Needs.{needs}
 use Rattle.decisions.proofs.decide.Statement.{statement}
 use Rattle.decisions.proofs.decide.Tie as tie
