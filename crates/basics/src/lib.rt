@@ -2,7 +2,7 @@
 ghost use mathlib.Core.Path.{_≡_};
 ghost use Prim.Native.Nat.{_+_, _≤_};
 ghost use lib.ListN.{length};
-ghost use Rattle.basics.specs.Words.{joined, wordAt};
+ghost use Rattle.basics.specs.Words.{byteAt, joined, wordAt};
 
 // Four bytes as a number, low byte first.
 pub fn word(a: u8, b: u8, c: u8, d: u8) -> u32
@@ -17,4 +17,11 @@ pub fn word_at(part: &[u8], at: usize) -> u32
     ensures { λ r. ⌜ r ≡ wordAt (now (part .entry)) at ⌝ }
 {
     word(part[at], part[at + 1], part[at + 2], part[at + 3])
+}
+
+// The byte at an index, 0 past the end.
+pub fn byte_at(s: &[u8], at: usize) -> u8
+    ensures { λ r. ⌜ r ≡ byteAt (now (s .entry)) at ⌝ }
+{
+    if at < s.len() { s[at] } else { 0 }
 }

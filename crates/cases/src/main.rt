@@ -109,7 +109,7 @@ fn sum(bytes: &[u8]) -> u64 {
 fn used(flash: &[u8], sector: u32) -> u32 {
     let mut n = 0u32;
     for i in 0..4096 {
-        if packet::byte_at(flash, sector as usize * 4096 + i) != 0xFF {
+        if basics::byte_at(flash, sector as usize * 4096 + i) != 0xFF {
             n = std::num::wrapping_add_u32(n, 1);
         }
     }

@@ -15,9 +15,9 @@ pub fn look_up<'a>(kinds: &'a [u8], locks: &'a [u8], index: u8) -> Look
 {
     let at = index as usize;
     Look {
-        kind: packet::byte_at(kinds, at),
-        lock: packet::byte_at(locks, at),
-        master: packet::byte_at(kinds, 0),
+        kind: basics::byte_at(kinds, at),
+        lock: basics::byte_at(locks, at),
+        master: basics::byte_at(kinds, 0),
     }
 }
 

@@ -6,7 +6,7 @@ ghost use mathlib.Core.Bool.{not};
 ghost use lib.Dec.{eqb};
 ghost use lib.ListN.{length};
 ghost use Rattle.packet.specs.Packets.{readOf};
-ghost use Rattle.packet.specs.Message.{nextMessage};
+ghost use Rattle.reply.specs.Message.{nextMessage};
 ghost use Rattle.services.specs.Calls.{first};
 ghost use Rattle.layout.specs.Layout.{recordLength};
 ghost use Rattle.record.specs.InPlace.{freshInPlace, handledInPlace, restartedInPlace, workedInPlace, cutInPlace};
@@ -118,6 +118,6 @@ pub extern "C" fn grzelotka_cut(
 pub extern "C" fn grzelotka_next_message<'a>(event: &'a [u8], response: &'a [u8]) -> usize
     ensures { λ r. ⌜ r ≡ length (nextMessage (now (event .entry)) (now (response .entry))) ⌝ }
 {
-    let part = packet::next_message(event, response);
+    let part = reply::next_message(event, response);
     part.len()
 }

@@ -267,7 +267,7 @@ fn drop_locks(rec: &mut [u8])
     requires { ⌜ length (now rec) ≡ recordLength ⌝ }
     ensures { λ _. ⌜ now (rec .exit) ≡ putAt (now (rec .entry)) locksAt (zeros 101) ⌝ }
 {
-    packet::clear(&mut rec[LOCKS..AUTH]);
+    reply::clear(&mut rec[LOCKS..AUTH]);
 }
 
 fn lock_slot(rec: &mut [u8], slot: u8)

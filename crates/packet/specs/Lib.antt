@@ -1,4 +1,2 @@
 pub mod Packets
 pub mod Lawful
-pub mod Replies
-pub mod Message

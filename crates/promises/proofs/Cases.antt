@@ -6,7 +6,7 @@ use lib.Dec.{T}
 use Rattle.basics.specs.Choice.{pick}
 use Rattle.basics.specs.Words.{zeros}
 use Rattle.packet.specs.Packets.{commandOf, readOf}
-use Rattle.packet.specs.Replies.{response, event, replied}
+use Rattle.reply.specs.Replies.{response, event, replied}
 use Rattle.plan.specs.Placement.{those, cleared}
 use Rattle.device.specs.Kind.{freshDevice}
 use Rattle.keys.specs.Keys.{storeKey}

@@ -10,8 +10,8 @@ use Rattle.basics.specs.Choice.{pick}
 use Rattle.basics.specs.Words.{zeros}
 use Rattle.packet.specs.declared.Reading.{Reading}
 use Rattle.packet.specs.Packets.{readOf}
-use Rattle.packet.specs.Replies.{replied}
-use Rattle.packet.specs.Message.{nextMessage}
+use Rattle.reply.specs.Replies.{replied}
+use Rattle.reply.specs.Message.{nextMessage}
 use Rattle.device.specs.declared.Device.{Device}
 use Rattle.services.specs.declared.Numbers.{Numbers}
 use Rattle.services.specs.Calls.{Result, RestartResult, WorkResult, handled, restarted, worked, cutOff}

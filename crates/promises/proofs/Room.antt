@@ -13,7 +13,7 @@ use Rattle.answer.specs.declared.Checked.the-variants.{Good, Fails}
 use Rattle.image.specs.declared.Terms.{Terms}
 use Rattle.image.specs.Images.{roomFor, decided, judged, checkedOf}
 use Rattle.packet.specs.Packets.{commandOf, readOf}
-use Rattle.packet.specs.Replies.{response, replied}
+use Rattle.reply.specs.Replies.{response, replied}
 use Rattle.device.specs.declared.Mode.the-variants.{Upgrade}
 use Rattle.device.specs.Heads.{withError, withMode}
 use Rattle.device.specs.Whole.{withHead}

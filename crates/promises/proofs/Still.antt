@@ -13,7 +13,7 @@ use Rattle.packet.specs.declared.Command.the-variants.{GetState}
 use Rattle.packet.specs.declared.Reading.{Reading}
 use Rattle.packet.specs.declared.Reading.the-variants.{Lawful, Refused}
 use Rattle.packet.specs.Packets.{commandOf, readOf}
-use Rattle.packet.specs.Replies.{response, event, replied}
+use Rattle.reply.specs.Replies.{response, event, replied}
 use Rattle.answer.specs.declared.Checked.{Checked}
 use Rattle.device.specs.declared.Step.{Step}
 use Rattle.device.specs.declared.Look.{Look}

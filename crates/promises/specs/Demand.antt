@@ -7,7 +7,7 @@ use mathlib.Core.List.{List, [], _∷_}
 use lib.ListN.{length}
 use Rattle.basics.specs.Choice.{pick}
 use Rattle.packet.specs.declared.Command.the-variants.{GetState}
-use Rattle.packet.specs.Replies.{response, event, replied}
+use Rattle.reply.specs.Replies.{response, event, replied}
 use Rattle.plan.specs.declared.Job.{Job}
 use Rattle.plan.specs.Placement.{storeCount}
 use Rattle.plan.specs.Stores.{going, left}

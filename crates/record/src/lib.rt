@@ -36,7 +36,7 @@ fn refuse(reply: &mut [u8], refusal: Refusal) -> Verdict
     ensures { λ r. ⌜ r ≡ Verdict.Refused refusal ⌝ }
     ensures { λ _. ⌜ now (reply .exit) ≡ zeros (length (now (reply .entry))) ⌝ }
 {
-    packet::clear(reply);
+    reply::clear(reply);
     Verdict::Refused(refusal)
 }
 
@@ -47,7 +47,7 @@ pub fn fresh(rec: &mut [u8]) -> Verdict
     if rec.len() != layout::LENGTH {
         return Verdict::Refused(Refusal::UnsoundRecord);
     }
-    packet::clear(rec);
+    reply::clear(rec);
     layout::write_head(rec, Head::fresh());
     Verdict::Taken
 }
@@ -57,7 +57,7 @@ fn decide(rec: &[u8], packet: &[u8], command: Command, checked: Checked) -> Step
     requires { ⌜ length (now rec) ≡ recordLength ⌝ }
     ensures { λ r. ⌜ r ≡ stepFor (decode (now (rec .entry))) command (now (packet .entry)) checked ⌝ }
 {
-    let first = packet::byte_at(packet, 4);
+    let first = basics::byte_at(packet, 4);
     let looked = layout::look_up(rec, first);
     let key = services::key_in(command, packet);
     decisions::decide(
@@ -150,7 +150,7 @@ fn start(rec: &mut [u8], head: Head, event: &mut [u8])
     ensures { λ _. ⌜ now (event .exit) ≡ eventFor (withHead head (decode (now (rec .entry)))) (length (now (event .entry))) ⌝ }
 {
     let mode = head.mode;
-    packet::write_event(event, soundness::stack_runs(mode));
+    reply::write_event(event, soundness::stack_runs(mode));
     layout::lose(rec, head);
 }
 

@@ -15,7 +15,7 @@ use Rattle.packet.specs.declared.Reading.{Reading}
 use Rattle.packet.specs.declared.Reading.the-variants.{Lawful, Refused as Unlawful}
 use Rattle.packet.specs.Packets.{opcodeOf, readOf}
 use Rattle.packet.specs.Lawful.{Bytes}
-use Rattle.packet.specs.Replies.{response, event, replied}
+use Rattle.reply.specs.Replies.{response, event, replied}
 use Rattle.answer.specs.declared.Failure.the-variants.{NoImage}
 use Rattle.answer.specs.declared.Answer.{Answer}
 use Rattle.answer.specs.declared.Checked.{Checked}

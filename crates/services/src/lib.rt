@@ -62,7 +62,7 @@ fn refuse(d: Device, reply: &mut [u8], refusal: Refusal) -> Outcome
     ensures { λ r. ⌜ r ≡ record { verdict = Verdict.Refused refusal; device = d } ⌝ }
     ensures { λ _. ⌜ now (reply .exit) ≡ zeros (length (now (reply .entry))) ⌝ }
 {
-    packet::clear(reply);
+    reply::clear(reply);
     Outcome {
         verdict: Verdict::Refused(refusal),
         device: d,
@@ -109,7 +109,7 @@ pub fn look_for(k: Numbers, h: Head, command: Command, flash: &[u8], key: &[u8])
 fn decide(d: Device, packet: &[u8], command: Command, checked: Checked) -> Step
     ensures { λ r. ⌜ r ≡ stepFor d command (now (packet .entry)) checked ⌝ }
 {
-    let first = packet::byte_at(packet, 4);
+    let first = basics::byte_at(packet, 4);
     let looked = whole::look_up(&d.kinds, &d.locks, first);
     let key = key_in(command, packet);
     decisions::decide(d.head, looked, checked, command, first, key.len())
@@ -119,7 +119,7 @@ fn decide(d: Device, packet: &[u8], command: Command, checked: Checked) -> Step
 pub fn respond(reply: &mut [u8], command: Command, answer: Answer)
     ensures { λ _. ⌜ now (reply .exit) ≡ replyTo command answer (length (now (reply .entry))) ⌝ }
 {
-    packet::write_response(
+    reply::write_response(
         reply,
         command,
         answer::status_of(answer),
@@ -206,7 +206,7 @@ fn start(d: Device, event: &mut [u8]) -> Outcome
 {
     let head = d.head;
     let mode = head.mode;
-    packet::write_event(event, soundness::stack_runs(mode));
+    reply::write_event(event, soundness::stack_runs(mode));
     Outcome {
         verdict: Verdict::Taken,
         device: whole::lose(d),

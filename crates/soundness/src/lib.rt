@@ -177,8 +177,8 @@ pub fn keys_sound<'a>(
     ensures { λ r. ⌜ r ≡ keysSound count loaded (now (kinds .entry)) (now (sizes .entry)) (now (locks .entry)) ⌝ }
 {
     let slots = slots_sound(count, kinds, sizes, locks);
-    let kind = packet::byte_at(kinds, loaded as usize);
-    slots & loaded_sound(kind, packet::byte_at(kinds, 0))
+    let kind = basics::byte_at(kinds, loaded as usize);
+    slots & loaded_sound(kind, basics::byte_at(kinds, 0))
 }
 
 pub fn is_sound(d: Device, size: usize, top: usize) -> bool

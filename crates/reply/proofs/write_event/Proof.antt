@@ -1,7 +1,7 @@
 use borrow.Author.Needs.{needs}
-use Rattle.packet.specs.Replies.{event}
-use Rattle.packet.proofs.write_event.Statement.{statement}
-use Rattle.packet.proofs.write_event.Tie as tie
+use Rattle.reply.specs.Replies.{event}
+use Rattle.reply.proofs.write_event.Statement.{statement}
+use Rattle.reply.proofs.write_event.Tie as tie
 
 code-of-requires : tie.Need-code-of-requires
 code-of-requires c κs = search needs

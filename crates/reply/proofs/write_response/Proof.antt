@@ -1,9 +1,9 @@
 use mathlib.Core.Path.{ap, _∙_}
 use borrow.Author.Needs.{needs}
-use Rattle.packet.specs.Replies.{replied}
-use Rattle.packet.proofs.Laws.{with-payload, without-payload}
-use Rattle.packet.proofs.write_response.Statement.{statement}
-use Rattle.packet.proofs.write_response.Tie as tie
+use Rattle.reply.specs.Replies.{replied}
+use Rattle.reply.proofs.Laws.{with-payload, without-payload}
+use Rattle.reply.proofs.write_response.Statement.{statement}
+use Rattle.reply.proofs.write_response.Tie as tie
 
 opcode-of-requires : tie.Need-opcode-of-requires
 opcode-of-requires c κs = search needs

@@ -3,10 +3,10 @@ use native.Mathlib.Omega.{arith}
 use lib.ListN.{length}
 use borrow.Author.Needs.{needs}
 use Rattle.basics.specs.Choice.{cases}
-use Rattle.packet.specs.Replies.{replied}
-use Rattle.packet.proofs.Laws.{over-zeros}
-use Rattle.packet.proofs.put.Statement.{statement}
-use Rattle.packet.proofs.put.Tie as tie
+use Rattle.reply.specs.Replies.{replied}
+use Rattle.reply.proofs.Laws.{over-zeros}
+use Rattle.reply.proofs.put.Statement.{statement}
+use Rattle.reply.proofs.put.Tie as tie
 
 clear-requires : tie.Need-clear-requires
 clear-requires c κs = search needs

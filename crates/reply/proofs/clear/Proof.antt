@@ -7,8 +7,8 @@ use lib.Seq.{drop-length}
 use borrow.Author.Fill.{fill-more}
 use borrow.Author.Needs.{needs}
 use Rattle.basics.specs.Words.{zeros}
-use Rattle.packet.proofs.clear.Statement.{statement}
-use Rattle.packet.proofs.clear.Tie as tie
+use Rattle.reply.proofs.clear.Statement.{statement}
+use Rattle.reply.proofs.clear.Tie as tie
 
 abbrev Inv-loop : tie.InvT-loop
 Inv-loop buffer₀ i₀ buffer i = (i ≤ length buffer₀) × (length buffer ≡ length buffer₀) × (buffer ≡ replicate i 0 ++ drop i buffer₀)

@@ -1,6 +1,6 @@
 use borrow.Author.Needs.{needs}
-use Rattle.packet.proofs.begins.Statement.{statement}
-use Rattle.packet.proofs.begins.Tie as tie
+use Rattle.reply.proofs.begins.Statement.{statement}
+use Rattle.reply.proofs.begins.Tie as tie
 
 byte-at-requires : tie.Need-byte-at-requires
 byte-at-requires c κs = search needs

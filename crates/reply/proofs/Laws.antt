@@ -11,10 +11,10 @@ use lib.Seq.{length-take-le, take-length}
 use borrow.Author.Tests.{leb-true, le-leb}
 use Rattle.basics.specs.Choice.{yes-by, no-by, and-left}
 use Rattle.basics.specs.Words.{byteAt, low, high, zeros}
 use Rattle.packet.specs.declared.Command.{Command}
 use Rattle.packet.specs.Packets.{opcodeOf}
-use Rattle.packet.specs.Message.{holds}
-use Rattle.packet.specs.Replies.{hasPayload, response, replied}
+use Rattle.reply.specs.Message.{holds}
+use Rattle.reply.specs.Replies.{hasPayload, response, replied}
 
 -- the first n bytes of a buffer that holds n are n
 pub long : (s : List ℕ) (n a b c : ℕ) {r : Bool} → r ≡ true → r ≡ holds s n a b c → n ≡ length (take n s)

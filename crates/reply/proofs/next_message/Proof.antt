@@ -1,9 +1,9 @@
 use borrow.Author.Needs.{needs}
 use Rattle.basics.specs.Choice.{cases}
-use Rattle.packet.specs.Message.{nextMessage, nextFrom}
-use Rattle.packet.proofs.Laws.{long}
-use Rattle.packet.proofs.next_message.Statement.{statement}
-use Rattle.packet.proofs.next_message.Tie as tie
+use Rattle.reply.specs.Message.{nextMessage, nextFrom}
+use Rattle.reply.proofs.Laws.{long}
+use Rattle.reply.proofs.next_message.Statement.{statement}
+use Rattle.reply.proofs.next_message.Tie as tie
 
 begins-requires : tie.Need-begins-requires
 begins-requires c κs = search needs
