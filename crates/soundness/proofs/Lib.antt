@@ -1,5 +1,6 @@
 pub mod Laws
 pub mod Slots
+pub mod Runs
 pub mod Parts
 pub mod Keys
 pub mod Heads

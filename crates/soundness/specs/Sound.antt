@@ -5,6 +5,7 @@ use mathlib.Core.Bool.{Bool, true, false, not, _&&_, _||_, Bool·beq}
 use mathlib.Core.List.{List}
 use lib.Dec.{ltb, leb, eqb}
 use lib.ListN.{getD}
+use Rattle.basics.specs.Choice.{pick}
 use Rattle.image.specs.Images.{sizeLawful, versionLawful, roomFor}
 use Rattle.answer.specs.declared.Checked.{Checked}
 use Rattle.answer.specs.declared.Checked.the-variants.{Good, Fails, Erases}
@@ -90,13 +91,22 @@ headSound S top h =
     && errorSound (h .error) (isIdle (h .mode))
     && modeSound S top (h .mode) (h .present) (h .boundary) (h .made)
 
--- a slot of the keys: 0 is the master's, 1 to count are user keys, of type 1 or 3 and, like the master, of a lawful size; only they may be
--- locked, and the others hold nothing
+-- what a slot of the keys may hold: nothing; the master, of a lawful size; a user key, of type 1 or 3 and a lawful size, which may be locked
+abbrev pub noneIn : ℕ → ℕ → ℕ → Bool
+noneIn kind size lock = eqb kind 0 && eqb size 0 && eqb lock 0
+
+abbrev pub masterIn : ℕ → ℕ → ℕ → Bool
+masterIn kind size lock = eqb kind 2 && keyLawful kind size && eqb lock 0
+
+abbrev pub userIn : ℕ → ℕ → ℕ → Bool
+userIn kind size lock = (eqb kind 1 || eqb kind 3) && keyLawful kind size && leb lock 1
+
+-- 0 is the master's, 1 to count are user keys, and the others hold nothing
 abbrev pub slotSound : ℕ → ℕ → ℕ → ℕ → ℕ → Bool
 slotSound i count kind size lock =
-    (eqb kind 0 && eqb size 0 && eqb lock 0 && (eqb i 0 || ltb count i))
-    || (eqb kind 2 && keyLawful kind size && eqb lock 0 && eqb i 0)
-    || ((eqb kind 1 || eqb kind 3) && keyLawful kind size && leb lock 1 && leb 1 i && leb i count)
+    (noneIn kind size lock && (eqb i 0 || ltb count i))
+    || (masterIn kind size lock && eqb i 0)
+    || (userIn kind size lock && leb 1 i && leb i count)
 
 -- does a test hold of each number below n?
 unfoldable pub allBelow : ℕ → (ℕ → Bool) → Bool
@@ -108,6 +118,19 @@ slotTest count kinds sizes locks i = slotSound i count (getD kinds i 0) (getD si
 
 unfoldable pub slotsSound : ℕ → List ℕ → List ℕ → List ℕ → Bool
 slotsSound count kinds sizes locks = allBelow 101 (slotTest count kinds sizes locks)
+
+-- the same in the order in which the code goes: the master's slot, the slots below `end`, and those from there on
+abbrev pub firstIn : ℕ → ℕ → ℕ → Bool
+firstIn kind size lock = noneIn kind size lock || masterIn kind size lock
+
+abbrev pub userTest : List ℕ → List ℕ → List ℕ → ℕ → Bool
+userTest kinds sizes locks i = eqb i 0 || userIn (getD kinds i 0) (getD sizes i 0) (getD locks i 0)
+
+abbrev pub noneTest : ℕ → List ℕ → List ℕ → List ℕ → ℕ → Bool
+noneTest end kinds sizes locks i = ltb i end || noneIn (getD kinds i 0) (getD sizes i 0) (getD locks i 0)
+
+abbrev pub usersEnd : ℕ → ℕ
+usersEnd count = pick (ltb count 100) (count + 1) 101
 
 -- an encrypted key is loaded only with a master key
 abbrev pub loadedSound : ℕ → ℕ → Bool

@@ -10,7 +10,7 @@ ghost use lib.ListN.{length};
 ghost use Rattle.basics.specs.Choice.{pick};
 ghost use Rattle.plan.specs.Range.{InRange};
 ghost use Rattle.plan.specs.Stores.{planOf};
-ghost use Rattle.soundness.specs.Sound.{stackRuns, stackSound, partsSound, errorSound, progressSound, modeSound, headSound, slotSound, slotsSound, loadedSound, keysSound, sound};
+ghost use Rattle.soundness.specs.Sound.{stackRuns, stackSound, partsSound, errorSound, progressSound, modeSound, headSound, noneIn, userIn, firstIn, allBelow, userTest, noneTest, usersEnd, slotsSound, loadedSound, keysSound, sound};
 
 pub fn stack_runs(mode: Mode) -> bool
     ensures { λ r. ⌜ r ≡ stackRuns mode ⌝ }
@@ -135,28 +135,77 @@ pub fn head_sound(h: Head, size: usize, top: usize) -> bool
         & mode_sound(size, top, mode, h.present, h.boundary, h.made)
 }
 
-fn slot_sound(i: u8, count: u8, kind: u8, size: u8, lock: u8) -> bool
-    ensures { λ r. ⌜ r ≡ slotSound i count kind size lock ⌝ }
+fn none_in(kind: u8, size: u8, lock: u8) -> bool
+    ensures { λ r. ⌜ r ≡ noneIn kind size lock ⌝ }
 {
-    let lawful = keys::key_lawful(kind, size as usize);
-    ((kind == 0) & (size == 0) & (lock == 0) & ((i == 0) | (count < i)))
-        | ((kind == 2) & lawful & (lock == 0) & (i == 0))
-        | (((kind == 1) | (kind == 3)) & lawful & (lock <= 1) & (1 <= i) & (i <= count))
+    (kind == 0) & (size == 0) & (lock == 0)
 }
 
-// The slots as three arrays of a device, or as three parts of a record's bytes. A byte counts and no test ends the loop, so it runs in lanes of bytes.
+// By the type, which is fewer tests than `key_lawful`.
+fn user_in(kind: u8, size: u8, lock: u8) -> bool
+    ensures { λ r. ⌜ r ≡ userIn kind size lock ⌝ }
+{
+    (((kind == 1) & ((size == 16) | (size == 32))) | ((kind == 3) & ((size == 28) | (size == 44))))
+        & (lock <= 1)
+}
+
+// The master's slot.
+fn first_in(kind: u8, size: u8, lock: u8) -> bool
+    ensures { λ r. ⌜ r ≡ firstIn kind size lock ⌝ }
+{
+    let lawful = keys::key_lawful(kind, size as usize);
+    none_in(kind, size, lock) | ((kind == 2) & lawful & (lock == 0))
+}
+
+// Slots 1 to `end` - 1 hold user keys. No test ends the loop, here and in `none_from`, so they run in lanes of bytes.
+fn users_in<'a>(end: usize, kinds: &'a [u8], sizes: &'a [u8], locks: &'a [u8]) -> bool
+    requires { ⌜ (1 ≤ end) × (end ≤ 101) ⌝ }
+    requires { ⌜ (length (now kinds) ≡ 101) × ((length (now sizes) ≡ 101) × (length (now locks) ≡ 101)) ⌝ }
+    ensures { λ r. ⌜ r ≡ allBelow end (userTest (now (kinds .entry)) (now (sizes .entry)) (now (locks .entry))) ⌝ }
+{
+    let mut ok = true;
+    let mut i = 1;
+    while i < end {
+        ok = ok & user_in(kinds[i], sizes[i], locks[i]);
+        i += 1;
+    }
+    ok
+}
+
+// Slots `end` to 100 hold nothing.
+fn none_from<'a>(end: usize, kinds: &'a [u8], sizes: &'a [u8], locks: &'a [u8]) -> bool
+    requires { ⌜ (1 ≤ end) × (end ≤ 101) ⌝ }
+    requires { ⌜ (length (now kinds) ≡ 101) × ((length (now sizes) ≡ 101) × (length (now locks) ≡ 101)) ⌝ }
+    ensures { λ r. ⌜ r ≡ allBelow 101 (noneTest end (now (kinds .entry)) (now (sizes .entry)) (now (locks .entry))) ⌝ }
+{
+    let mut ok = true;
+    let mut i = end;
+    while i < 101 {
+        ok = ok & none_in(kinds[i], sizes[i], locks[i]);
+        i += 1;
+    }
+    ok
+}
+
+fn users_end(count: u8) -> usize
+    ensures { λ r. ⌜ r ≡ usersEnd count ⌝ }
+    ensures { λ r. ⌜ (1 ≤ r) × (r ≤ 101) ⌝ }
+{
+    if count < 100 {
+        return count as usize + 1;
+    }
+    101
+}
+
+// The slots as three arrays of a device, or as three parts of a record's bytes.
 fn slots_sound<'a>(count: u8, kinds: &'a [u8], sizes: &'a [u8], locks: &'a [u8]) -> bool
     requires { ⌜ (length (now kinds) ≡ 101) × ((length (now sizes) ≡ 101) × (length (now locks) ≡ 101)) ⌝ }
     ensures { λ r. ⌜ r ≡ slotsSound count (now (kinds .entry)) (now (sizes .entry)) (now (locks .entry)) ⌝ }
 {
-    let mut ok = true;
-    let mut i: u8 = 0;
-    while i < 101 {
-        let at = i as usize;
-        ok = ok & slot_sound(i, count, kinds[at], sizes[at], locks[at]);
-        i += 1;
-    }
-    ok
+    let end = users_end(count);
+    first_in(kinds[0], sizes[0], locks[0])
+        & users_in(end, kinds, sizes, locks)
+        & none_from(end, kinds, sizes, locks)
 }
 
 fn loaded_sound(kind: u8, master: u8) -> bool

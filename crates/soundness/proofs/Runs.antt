@@ -1,0 +1,167 @@
+-- The slots in the order in which the code goes over them: the master's, the user keys', and those that hold nothing.
+-- Assumes nothing.
+use Prim.Native.Nat.{ℕ, zero, suc, _+_, _≤_, _<_}
+use mathlib.Core.Path.{_≡_, refl, sym}
+use mathlib.Core.Bool.{Bool, true, false, _&&_, _||_, or-true}
+use mathlib.Core.List.{List}
+use native.Mathlib.Omega.{arith}
+use borrow.Author.Tests.{leb-true, le-leb, ltb-true, ltb-false, lt-ltb, eqb-true, eq-eqb}
+use lib.Dec.{leb, ltb, eqb}
+use lib.ListN.{getD}
+use Rattle.basics.specs.Choice.{pick, both-true, and-left, and-right, or-either}
+use Rattle.keys.specs.Keys.{keyLawful}
+use Rattle.soundness.specs.Sound.{noneIn, masterIn, userIn, firstIn, userTest, noneTest, usersEnd, slotTest, allBelow, slotsSound}
+use Rattle.soundness.proofs.Laws.{all-below, each-below}
+use Rattle.soundness.proofs.Slots.{Slot, none, master, user, slot-of, slot-sound}
+
+-- a user key by its type
+pub user-by : (kind size lock : ℕ)
+    → (((eqb kind 1 && (eqb size 16 || eqb size 32)) || (eqb kind 3 && (eqb size 28 || eqb size 44))) && leb lock 1) ≡ userIn kind size lock
+user-by kind size lock = one (eqb kind 1) refl
+  where
+    three : (t : Bool) → eqb kind 1 ≡ false → eqb kind 3 ≡ t
+        → (((eqb kind 1 && (eqb size 16 || eqb size 32)) || (eqb kind 3 && (eqb size 28 || eqb size 44))) && leb lock 1) ≡ userIn kind size lock
+    three true n e = let k : kind ≡ 3 = eqb-true kind 3 e in rw k refl
+    three false n e = rw (n, e) refl
+
+    one : (t : Bool) → eqb kind 1 ≡ t
+        → (((eqb kind 1 && (eqb size 16 || eqb size 32)) || (eqb kind 3 && (eqb size 28 || eqb size 44))) && leb lock 1) ≡ userIn kind size lock
+    one true e = let k : kind ≡ 1 = eqb-true kind 1 e in rw k refl
+    one false e = three (eqb kind 3) e refl
+
+-- tests that hold together are the same
+same : (a b : Bool) → (a ≡ true → b ≡ true) → (b ≡ true → a ≡ true) → a ≡ b
+same true b f g = sym (f refl)
+same false true f g = g refl
+same false false f g = refl
+
+-- where the user keys end
+end-between : (count : ℕ) → (1 ≤ usersEnd count) × (usersEnd count ≤ 101)
+unfolding pick
+end-between count = go (ltb count 100) refl
+  where
+    go : (t : Bool) → ltb count 100 ≡ t → (1 ≤ pick t (count + 1) 101) × (pick t (count + 1) 101 ≤ 101)
+    go true e = let h : count < 100 = ltb-true count 100 e in (omega arith, omega arith)
+    go false e = (omega arith, omega arith)
+
+before-end : (count i : ℕ) → i < usersEnd count → i ≤ count
+unfolding pick
+before-end count i = go (ltb count 100) refl
+  where
+    go : (t : Bool) → ltb count 100 ≡ t → i < pick t (count + 1) 101 → i ≤ count
+    go true e h = omega arith
+    go false e h = let g : 100 ≤ count = ltb-false count 100 e in omega arith
+
+from-end : (count i : ℕ) → i < 101 → usersEnd count ≤ i → count < i
+unfolding pick
+from-end count i low = go (ltb count 100) refl
+  where
+    go : (t : Bool) → ltb count 100 ≡ t → pick t (count + 1) 101 ≤ i → count < i
+    go true e h = omega arith
+    go false e h = let z : ⊥ = omega arith in absurd z
+
+-- one slot: what it holds, and the test of its place
+module _ (i count kind size lock : ℕ) where
+  pub first-of : i ≡ 0 → Slot i count kind size lock → firstIn kind size lock ≡ true
+  first-of z (none k s l h) = rw (eq-eqb kind 0 k, eq-eqb size 0 s, eq-eqb lock 0 l)
+  first-of z (master k law l q) =
+      let t : masterIn kind size lock ≡ true = rw (law, eq-eqb kind 2 k, eq-eqb lock 0 l) in rw t (or-true (noneIn kind size lock))
+  first-of z (user k law l low high) = let y : ⊥ = omega arith in absurd y
+
+  pub user-of : 1 ≤ i → i ≤ count → Slot i count kind size lock → userIn kind size lock ≡ true
+  user-of low high (none k s l h) = let g : count < i = h low in let z : ⊥ = omega arith in absurd z
+  user-of low high (master k law l q) = let z : ⊥ = omega arith in absurd z
+  user-of low high (user k law l low₂ high₂) = rw (law, k, le-leb lock 1 l)
+
+  pub none-of : 1 ≤ i → count < i → Slot i count kind size lock → noneIn kind size lock ≡ true
+  none-of low high (none k s l h) = rw (eq-eqb kind 0 k, eq-eqb size 0 s, eq-eqb lock 0 l)
+  none-of low high (master k law l q) = let z : ⊥ = omega arith in absurd z
+  none-of low high (user k law l low₂ high₂) = let z : ⊥ = omega arith in absurd z
+
+  holds-none : (1 ≤ i → count < i) → noneIn kind size lock ≡ true → Slot i count kind size lock
+  holds-none h e =
+      let a = and-left (eqb kind 0 && eqb size 0) (eqb lock 0) e in
+      none (eqb-true kind 0 (and-left (eqb kind 0) (eqb size 0) a)) (eqb-true size 0 (and-right (eqb kind 0) (eqb size 0) a)) (eqb-true lock 0 (and-right (eqb kind 0 && eqb size 0) (eqb lock 0) e)) h
+
+  holds-first : i ≡ 0 → firstIn kind size lock ≡ true → Slot i count kind size lock
+  holds-first z e =
+      or-either (noneIn kind size lock) (masterIn kind size lock) e
+      (λ a. holds-none (λ low. let y : ⊥ = omega arith in absurd y) a)
+      (λ a.
+      let b = and-left (eqb kind 2 && keyLawful kind size) (eqb lock 0) a in
+      master (eqb-true kind 2 (and-left (eqb kind 2) (keyLawful kind size) b)) (and-right (eqb kind 2) (keyLawful kind size) b) (eqb-true lock 0 (and-right (eqb kind 2 && keyLawful kind size) (eqb lock 0) a)) z)
+
+  holds-user : 1 ≤ i → i ≤ count → userIn kind size lock ≡ true → Slot i count kind size lock
+  holds-user low high e =
+      let k = eqb kind 1 || eqb kind 3 in
+      let a = and-left (k && keyLawful kind size) (leb lock 1) e in
+      user (and-left k (keyLawful kind size) a) (and-right k (keyLawful kind size) a) (leb-true lock 1 (and-right (k && keyLawful kind size) (leb lock 1) e)) low high
+
+-- where the two loops begin
+pub users-start : (kinds sizes locks : List ℕ) → allBelow 1 (userTest kinds sizes locks) ≡ true
+users-start kinds sizes locks =
+    all-below 1 (userTest kinds sizes locks) (λ i h. let e : i ≡ 0 = omega arith in rw e)
+
+pub rest-start : (end : ℕ) (kinds sizes locks : List ℕ) → allBelow end (noneTest end kinds sizes locks) ≡ true
+rest-start end kinds sizes locks = all-below end (noneTest end kinds sizes locks) (λ i h. rw (lt-ltb i end h))
+
+-- all slots
+module _ (count : ℕ) (kinds sizes locks : List ℕ) where
+  abbrev first : Bool
+  first = firstIn (getD kinds 0 0) (getD sizes 0 0) (getD locks 0 0)
+
+  abbrev users : Bool
+  users = allBelow (usersEnd count) (userTest kinds sizes locks)
+
+  abbrev rest : Bool
+  rest = allBelow 101 (noneTest (usersEnd count) kinds sizes locks)
+
+  abbrev In : ℕ → Type 0
+  In i = Slot i count (getD kinds i 0) (getD sizes i 0) (getD locks i 0)
+
+  user-holds : (i : ℕ) → i < usersEnd count → In i → userTest kinds sizes locks i ≡ true
+  user-holds zero h s = refl
+  user-holds (suc n) h s =
+      rw (user-of (suc n) count (getD kinds (suc n) 0) (getD sizes (suc n) 0) (getD locks (suc n) 0) (omega arith) (before-end count (suc n) h) s) (or-true (eqb (suc n) 0))
+
+  none-holds : (i : ℕ) (t : Bool) → ltb i (usersEnd count) ≡ t → i < 101 → In i → noneTest (usersEnd count) kinds sizes locks i ≡ true
+  none-holds i true e h s = rw e
+  none-holds i false e h s =
+      let far : usersEnd count ≤ i = ltb-false i (usersEnd count) e in
+      rw (none-of i count (getD kinds i 0) (getD sizes i 0) (getD locks i 0) (omega (arith, end-between count .0)) (from-end count i h far) s) (or-true (ltb i (usersEnd count)))
+
+  parted : slotsSound count kinds sizes locks ≡ true → (first && users && rest) ≡ true
+  unfolding slotsSound
+  parted e =
+      let each : (i : ℕ) → i < 101 → In i =
+      λ i h. slot-of i count (getD kinds i 0) (getD sizes i 0) (getD locks i 0) (each-below 101 (slotTest count kinds sizes locks) e i h) in
+      both-true (first && users) rest
+      (both-true first users
+      (first-of 0 count (getD kinds 0 0) (getD sizes 0 0) (getD locks 0 0) refl (each 0 (omega arith)))
+      (all-below (usersEnd count) (userTest kinds sizes locks) (λ i h. user-holds i h (each i (omega (arith, end-between count .1))))))
+      (all-below 101 (noneTest (usersEnd count) kinds sizes locks) (λ i h. none-holds i (ltb i (usersEnd count)) refl h (each i h)))
+
+  holds : (i : ℕ) (t : Bool) → ltb i (usersEnd count) ≡ t → i < 101 → first ≡ true → users ≡ true → rest ≡ true → In i
+  holds zero t e h f u r = holds-first 0 count (getD kinds 0 0) (getD sizes 0 0) (getD locks 0 0) refl f
+  holds (suc n) true e h f u r =
+      let g : suc n < usersEnd count = ltb-true (suc n) (usersEnd count) e in
+      or-either (eqb (suc n) 0) (userIn (getD kinds (suc n) 0) (getD sizes (suc n) 0) (getD locks (suc n) 0))
+      (each-below (usersEnd count) (userTest kinds sizes locks) u (suc n) g)
+      (λ z. let q : suc n ≡ 0 = eqb-true (suc n) 0 z in let y : ⊥ = omega arith in absurd y)
+      (λ z. holds-user (suc n) count (getD kinds (suc n) 0) (getD sizes (suc n) 0) (getD locks (suc n) 0) (omega arith) (before-end count (suc n) g) z)
+  holds (suc n) false e h f u r =
+      let g : usersEnd count ≤ suc n = ltb-false (suc n) (usersEnd count) e in
+      or-either (ltb (suc n) (usersEnd count)) (noneIn (getD kinds (suc n) 0) (getD sizes (suc n) 0) (getD locks (suc n) 0))
+      (each-below 101 (noneTest (usersEnd count) kinds sizes locks) r (suc n) h)
+      (λ z. let q : suc n < usersEnd count = ltb-true (suc n) (usersEnd count) z in let y : ⊥ = omega arith in absurd y)
+      (λ z. holds-none (suc n) count (getD kinds (suc n) 0) (getD sizes (suc n) 0) (getD locks (suc n) 0) (λ low. from-end count (suc n) h g) z)
+
+  joined : (first && users && rest) ≡ true → slotsSound count kinds sizes locks ≡ true
+  unfolding slotsSound
+  joined e =
+      let a = and-left (first && users) rest e in
+      all-below 101 (slotTest count kinds sizes locks)
+      (λ i h. slot-sound i count (getD kinds i 0) (getD sizes i 0) (getD locks i 0) (holds i (ltb i (usersEnd count)) refl h (and-left first users a) (and-right first users a) (and-right (first && users) rest e)))
+
+  pub slots-by : (first && users && rest) ≡ slotsSound count kinds sizes locks
+  slots-by = same (first && users && rest) (slotsSound count kinds sizes locks) joined parted
