@@ -29,7 +29,7 @@ test:
 	.ci/run
 
 demo: $(BUILD)/demo
-	$(BUILD)/demo $(IMAGE)
+	$(strip $(BUILD)/demo $(IMAGE))
 
 $(BUILD)/demo: $(EXAMPLES) $(wildcard examples/*.h) include/grzelotka.h $(LIBRARY) $(BUILD)/compiler
 	$(COMPILER) $(CFLAGS) -std=c11 -Iinclude -o $@ $(EXAMPLES) $(LIBRARY)

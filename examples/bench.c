@@ -51,7 +51,12 @@ void bench_begin(void) {
     noise(fresh.flash, APPLICATION * SECTOR, 3);
     noise(bench.filler, SECTOR, 4);
     bench_restore(&fresh);
-    bench.account.refused = grzelotka_restart(bench.device.record, RECORD, bench.event, sizeof bench.event) != 0;
+    bench_restart();
+}
+
+bool bench_restart(void) {
+    bench.account.refused |= grzelotka_restart(bench.device.record, RECORD, bench.event, sizeof bench.event) != 0;
+    return bench.event[0] != 0 && bench.event[5] == 0;
 }
 
 const struct device *bench_device(void) {

@@ -21,6 +21,9 @@ bool job_under_way(const struct device *device);
 /* Makes a fresh device over erased flash, with an application in the lowest sectors, and switches it on. */
 void bench_begin(void);
 
+/* Switches it off and on; does it say that the stack runs? */
+bool bench_restart(void);
+
 /* The device as it stands. */
 const struct device *bench_device(void);
 

@@ -21,7 +21,7 @@ static const struct damage damages[] = {
     {"opcode not listed", 4, 4, MAILBOX, 7, STATE_REQUEST, {0x10, 0x53, 0xFC, 0}},
     {"one byte too many", 4, 5, MAILBOX, 8, STATE_REQUEST, {0x10, GET_STATE, 0xFC, 1, 0}},
     {"other size inside", 22, 22, MAILBOX, 9, {0x10, STORE_USR_KEY, 0xFC, 18, 1, 16}, {0x10, STORE_USR_KEY, 0xFC, 18, 1, 17}},
-    {"another command", 4, 4, MAILBOX, 0, STATE_REQUEST, {0x10, START_WS, 0xFC, 0}},
+    {"another command", 4, 4, MAILBOX, 0, {0x10, FW_UPGRADE, 0xFC, 0}, {0x10, FW_DELETE, 0xFC, 0}},
 };
 enum { DAMAGES = sizeof damages / sizeof *damages };
 
@@ -66,9 +66,9 @@ static void print_bytes(const uint8_t *bytes, size_t length) {
 
 /* what a reader takes the status byte for that looks at nothing else */
 static const char *reading(uint8_t opcode, uint8_t status) {
-    if (opcode == STORE_USR_KEY)
-        return status == 0 ? "00 stored" : "01 failed";
-    return status == IDLE ? "00 idle" : "01 what?";
+    if (opcode == GET_STATE)
+        return status == IDLE ? "00 idle" : "not idle";
+    return status == 0 ? "00 done" : "01 failed";
 }
 
 /* one damaged command, with the old reply standing in the mailbox before it */
@@ -88,10 +88,9 @@ static bool print_row(const struct scene *scene, const struct damage *damage) {
         printf("%-9s", "taken"), print_bytes(damaged->mailbox, 7);
     printf("%-12s", reading(damage->sent[1], damaged->refused != 0 ? before[6] : damaged->mailbox[6]));
     if (asked.packets == 2)
-        printf("no answer, then %02X %02X", asked.reply.status, asked.reply.payload);
+        printf("no answer, then %02X%s\n", asked.reply.status, good ? "" : "   WRONG");
     else
-        printf("answer %u: %02X %02X", asked.packets, asked.reply.status, asked.reply.payload);
-    printf("%s\n", good ? "" : "   WRONG");
+        printf("packet %u answered: %02X   WRONG\n", asked.packets, asked.reply.status);
     return good;
 }
 

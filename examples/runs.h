@@ -5,7 +5,7 @@
 #include "image.h"
 #include "updater.h"
 
-/* Two stacks, and the device with each of them installed and running, as jobs that were never cut leave it. */
+/* Two stacks, and the device with each of them installed by a job that was never cut, then switched off and on: the stack runs. */
 struct scene {
     struct image old_stack, new_stack;
     struct device with_old, with_new;
