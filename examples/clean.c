@@ -31,7 +31,7 @@ static bool judge(const char *name, const struct device *before, const struct im
     bool runs = bench_restart();
     bool good = result.outcome == DONE && counted && installed && runs && plan_leaves(&plan, before, image, device->flash);
     printf("\n  %s: b = %u sectors from %u to %u, c = %u cleared; %u stores, by 3b + 2c + 1: %u. %s.\n", name, plan.b, plan.p, plan.q, plan.c,
-           account->stores, plan_stores(&plan), good ? "Flash and record are as they should be" : "WRONG");
+           account->stores, plan_stores(&plan), good ? "Flash, boundary and version are as they should be" : "WRONG");
     if (!good)
         explain(result, runs);
     return good;
@@ -67,7 +67,8 @@ bool clean_run(struct scene *scene) {
     bench_watch(watch, scene);
     struct result result = install(&scene->new_stack);
     bench_watch(NULL, NULL);
-    map_print("After the last: the new stack runs", &scene->new_stack, &scene->new_stack);
+    if (result.outcome == DONE)
+        map_print("After the last: the new stack runs", &scene->new_stack, &scene->new_stack);
     good = judge("Upgrade", &scene->with_old, &scene->new_stack, result) && good;
     scene->with_new = *bench_device();
     return good;

@@ -60,13 +60,18 @@ static struct result play(const struct job *job) {
     return job->image ? updater_upgrade(job->image->bytes, job->image->size) : updater_delete();
 }
 
+/* no call was refused, the stores left were told rightly, and the stack was not said to run before the job's end */
+static bool told_rightly(const struct account *account) {
+    return !account->refused && !account->miscounted && !account->stack_too_soon;
+}
+
 /* the job never cut: it ends as the rules say */
 static bool play_uncut(struct job *job) {
     bench_restore(job->begin);
     job->plan = plan_of(job->begin, job->image);
-    bool done = play(job).outcome == DONE;
+    bool done = play(job).outcome == DONE && told_rightly(bench_account()) && bench_account()->stores == plan_stores(&job->plan);
     job->end = *bench_device();
-    return done && bench_account()->stores == plan_stores(&job->plan) && plan_leaves(&job->plan, job->begin, job->image, job->end.flash);
+    return done && boundary_of(&job->end) == job->plan.q && plan_leaves(&job->plan, job->begin, job->image, job->end.flash);
 }
 
 /* the job with its power cut: a job more on its line */
@@ -76,13 +81,12 @@ static void play_cut(const struct job *job, const struct cut *cut, struct line *
     bench_cut(cut->after, cut->times, cut->through);
     bool same = play(job).outcome == DONE && bench_equals(&job->end);
     bool counted = account->after_cut >= cut->least && account->after_cut <= cut->most;
-    bool told = !account->miscounted && !account->stack_too_soon && !account->refused;
     line->jobs++;
     line->cuts += account->cuts;
     line->spoiled += account->spoiled;
     line->same += same;
     line->too_soon += account->stack_too_soon;
-    line->good += same && counted && told && account->cuts > 0;
+    line->good += same && counted && told_rightly(account) && account->cuts > 0;
     if (account->after_cut > line->most)
         line->most = account->after_cut;
 }
