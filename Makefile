@@ -1,5 +1,6 @@
 # Needs GNU make 4, a POSIX shell and the kit's `rt`. `make help` says what there is to make.
-BUILD ?= build
+BUILD := build
+IMAGE :=
 PREFIX ?= /usr/local
 LIBDIR ?= $(PREFIX)/lib
 INCLUDEDIR ?= $(PREFIX)/include

@@ -7,7 +7,7 @@
 #include <stddef.h>
 #include <stdint.h>
 
-/* the commands that an updater needs, by the low byte of their opcode; the high byte is 0xFC (table 11) */
+/* the commands used here, by the low byte of their opcode; the high byte is 0xFC (table 11) */
 enum { GET_STATE = 0x52, FW_UPGRADE = 0x54, FW_DELETE = 0x55, STORE_USR_KEY = 0x58, START_WS = 0x5A };
 
 /* the states (table 13) and the error 0xFE (table 14), which says that the stack runs and not FUS */
