@@ -39,7 +39,8 @@ struct result updater_load(const uint8_t *image, uint32_t size);
 /* Makes FUS run, by two state requests if the stack runs (section 1.3). */
 struct result updater_activate(void);
 
-/* Loads an image, activates FUS, has the image installed, and waits until the new stack runs (section 2.1). Turned down, the old one is started again. */
+/* Loads an image, activates FUS, has the image installed, and waits until the new stack runs (section 2.1). Turned down, the old one is
+   started again. */
 struct result updater_upgrade(const uint8_t *image, uint32_t size);
 
 /* Activates FUS, has the stack deleted, and waits until FUS is idle (section 2.2). */
