@@ -20,6 +20,9 @@
 #include <stddef.h>
 #include <stdint.h>
 
+/* The version's one home: the Makefile reads it here for pkg-config. */
+#define GRZELOTKA_VERSION "0.1.0"
+
 #ifdef __cplusplus
 extern "C" {
 #endif

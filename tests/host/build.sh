@@ -1,15 +1,6 @@
-# Sourced by run and bite, in the repository's folder and after tests/kit.sh: C for x86-64, compiled and linked by the kit's own tools.
+# Sourced in the repository's folder, after tests/kit.sh: the tests' programs, the stand-in in plain C, and bugs for it.
 compile() { # SOURCE OBJECT WORDS..
-    source=$1 object=$2
-    shift 2
-    "$tools/bin/clang" --target=x86_64-unknown-linux-gnu -O2 -Wall -Wextra -Werror -fPIC -nostdinc \
-        -isystem tests/host/include -Iinclude -Ibench/host "$@" -c "$source" -o "$object"
-}
-
-link() { # PROGRAM OBJECTS..
-    program=$1
-    shift
-    said=$("$own/bin/rattle-link" --target x86_64-unknown-linux-gnu --toolchain "$tools" -o "$program" "$@" 2>&1) || { echo "$said"; return 1; }
+    compile86 "$@" -Wall -Wextra -Werror -Iinclude -Ibench/host
 }
 
 # plain C under the library's names, to stand in for the archive
@@ -19,6 +10,19 @@ stand_in() { # SOURCE OBJECT
         set -- "$@" "-Dplain_$call=grzelotka_$call"
     done
     compile "$@"
+}
+
+# a copy of the stand-in in plain C with one bug in it
+put_bug() { # BUG COPY
+    python3 -B - "$1" bench/host/plain.c >"$2" <<'END'
+import sys
+lines = open(sys.argv[1]).read().splitlines()
+old, new = lines[1].removeprefix('old: '), lines[2].removeprefix('new: ')
+source = open(sys.argv[2]).read()
+if source.count(old) != 1:
+    sys.exit(f'{sys.argv[1]}: its old text stands {source.count(old)} times')
+print(source.replace(old, new), end='')
+END
 }
 
 # the tests' objects, once
@@ -31,7 +35,7 @@ compile_tests() { # FOLDER
 # the tests' programs, with the library or what stands in for it
 link_tests() { # FOLDER LIBRARY
     for test in calls sweep damaged driver; do
-        link "$1/$test" "$1/$test.o" "$2" || return 1
+        link86 "$1/$test" "$1/$test.o" "$2" || return 1
     done
 }
 

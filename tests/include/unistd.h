@@ -1,0 +1,3 @@
+#pragma once
+#define STDOUT_FILENO 1
+int isatty(int);
