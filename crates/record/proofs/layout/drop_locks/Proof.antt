@@ -1,4 +1,5 @@
-use Rattle.record.proofs.Laws.{locks-length, length-zeros}
+use Rattle.basics.proofs.Words.{length-zeros}
+use Rattle.record.proofs.Laws.{locks-length}
 use borrow.Author.Needs.{needs}
 use Rattle.record.proofs.layout.drop_locks.Statement.{statement}
 use Rattle.record.proofs.layout.drop_locks.Tie as tie

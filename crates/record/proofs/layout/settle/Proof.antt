@@ -1,5 +1,6 @@
 use Rattle.basics.specs.Words.{zeros}
-use Rattle.record.proofs.Laws.{locks-first, length-zeros}
+use Rattle.basics.proofs.Words.{length-zeros}
+use Rattle.record.proofs.Laws.{locks-first}
 use borrow.Author.Needs.{needs}
 use Rattle.record.proofs.layout.settle.Statement.{statement}
 use Rattle.record.proofs.layout.settle.Tie as tie
