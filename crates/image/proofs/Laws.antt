@@ -4,7 +4,7 @@ use mathlib.Core.Bool.{Bool, true, false}
 use mathlib.Core.Logic.{⊎-elim}
 use mathlib.Core.List.{List, [], _∷_, _++_}
 use Prim.Native.Nat.{ℕ, zero, suc, _+_, _-_, _*_, _≤_, _<_}
-use native.Mathlib.Nat.{add-mul, one-mul, not-suc-le-zero, le-of-suc-le-suc, eq-or-lt-of-le}
+use native.Mathlib.Nat.{add-mul, one-mul, not-suc-le-zero, le-of-suc-le-suc, eq-or-lt-of-le, mod-lt}
 use native.Mathlib.Numerals.{add-one}
 use native.Mathlib.Omega.{arith}
 use lib.Dec.{eqb}
@@ -15,7 +15,7 @@ use Rattle.basics.specs.Choice.{pick}
 use Rattle.basics.specs.Words.{joined}
 use Rattle.image.specs.declared.Found.{Found}
 use Rattle.image.specs.declared.Found.the-variants.{At, Nowhere}
-use Rattle.image.specs.Sums.{total, begins}
+use Rattle.image.specs.Sums.{total, sumOf, begins}
 use Rattle.image.specs.Images.{mark, find}
 
 pick-false : (b : Bool) → pick b false false ≡ false
@@ -138,3 +138,8 @@ module _ (s : List ℕ) (i : ℕ) where
 
   pub total-rest : length s < i + 4 → total (drop i s) ≡ 0
   total-rest h = total-short (drop i s) (simp length-drop (omega arith))
+
+-- the sum is a word
+pub sum-word : (body : List ℕ) → sumOf body < 4294967296
+unfolding sumOf
+sum-word body = mod-lt (total body) (omega arith)

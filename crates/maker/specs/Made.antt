@@ -1,12 +1,14 @@
 -- Paper 01, "Bench images and the upgrade": an image made from its body.
-use Prim.Native.Nat.{ℕ, _+_, _%_}
+use Prim.Native.Nat.{ℕ, _+_, _*_, _%_, _<_}
+use mathlib.Core.Path.{_≡_}
+use mathlib.Core.Bool.{false}
 use mathlib.Core.List.{List, _∷_, _++_}
 use lib.Dec.{eqb}
-use lib.ListN.{length}
+use lib.ListN.{length, drop}
 use Rattle.basics.specs.Choice.{pick}
 use Rattle.basics.specs.Words.{flag, wordBytes, zeros}
 use Rattle.image.specs.declared.Header.{Header}
-use Rattle.image.specs.Sums.{sumOf}
+use Rattle.image.specs.Sums.{sumOf, begins}
 use Rattle.image.specs.Images.{mark, versionLawful, roomFor}
 use Rattle.device.specs.Kind.{sectorSize, fusSector}
 use Rattle.maker.specs.declared.Wanted.{Wanted}
@@ -54,3 +56,14 @@ withBytes key (Not u) = record { made = Not u; header = zeros 84 }
 
 unfoldable pub making : List ℕ → Wanted → Making
 making body w = withBytes (keyFor w) (madeOf body w)
+
+-- make answers this header; and, as the types of the code say, the version is a word and the tag key has 64 bytes
+pub record Makes (body : List ℕ) (w : Wanted) (h : Header) : Type 0 where
+  pub made : madeOf body w ≡ Image h
+  pub version : w .version < 4294967296
+  pub key : length (w .key) ≡ 64
+
+-- the image stands at sector p, and no sector between it and the boundary begins with the mark
+pub record Stands (S : ℕ) (F : List ℕ) (p boundary : ℕ) (image rest : List ℕ) : Type 0 where
+  pub there : drop (p * S) F ≡ image ++ rest
+  pub highest : (t : ℕ) → p < t → t < boundary → begins (drop (t * S) F) mark ≡ false

@@ -2,7 +2,7 @@
 use device::Device;
 use image::Header;
 ghost use mathlib.Core.Path.{_≡_};
-ghost use Rattle.maker.specs.Made.{frontBytes, headerBytes, headerFor, keyFor, madeOf, making};
+ghost use Rattle.maker.specs.Made.{frontBytes, headerBytes, keyFor, madeOf, making};
 
 // The most bytes that a body can have: with no stack and the image at sector 0, check 3 leaves one sector of the flash over.
 pub const LONGEST: usize = (Device::FUS_SECTOR - 1) * Device::SECTOR_SIZE - 84;

@@ -11,7 +11,7 @@ use lib.ListN.{length, take, drop, length-append, take-append-drop}
 use lib.Seq.{take-at, take-all, drop-append-add, drop-cons}
 use Rattle.basics.specs.Choice.{pick}
 use Rattle.basics.specs.Words.{byteAt, wordAt, joined, flag}
-use Rattle.basics.proofs.Words.{unword}
+use Rattle.basics.proofs.Words.{unword, flag-small}
 use Rattle.device.specs.declared.Device.{Device}
 use Rattle.device.specs.declared.Mode.{Mode}
 use Rattle.device.specs.declared.Mode.the-variants.{Stack, Idle, Upgrade, Delete}
@@ -35,10 +35,6 @@ unmode (Delete recorded) = refl
 
 skip : (n m : ℕ) (xs ys : List ℕ) → length xs ≡ n → drop (n + m) (xs ++ ys) ≡ drop m ys
 skip n m xs ys e = rw (← e, drop-append-add xs ys m)
-
-flag-small : (b : Bool) → leb (flag b) 1 ≡ true
-flag-small true = refl
-flag-small false = refl
 
 tag-small : (m : Mode) → leb (tagOf m) 3 ≡ true
 tag-small Stack = refl
