@@ -2,7 +2,6 @@
 // on standard error why nothing was.
 mod files;
 mod messages;
-mod version;
 
 use device::Device;
 use image::Header;
@@ -10,7 +9,8 @@ use libc::STDOUT_FILENO;
 use maker::Made;
 use maker::Unmade;
 use maker::Wanted;
-use version::Version;
+use maker::version;
+use maker::version::Version;
 
 // Which argument each word is.
 const BODY: usize = 1;
@@ -89,22 +89,34 @@ fn print(text: &[u8]) {
     io::write_all(STDOUT_FILENO, text);
 }
 
+fn print_number(n: usize, what: &[u8]) {
+    io::print_decimal(STDOUT_FILENO, n as u64);
+    print(what);
+}
+
+fn print_word(what: &[u8], n: u32) {
+    print(what);
+    io::print_hex(STDOUT_FILENO, n as u64, 8);
+}
+
+// How long the image is, in bytes and in sectors.
+fn report_size(size: u32) {
+    print_number(size as usize, b" bytes, ");
+    let sectors = sectors::sectors_for(size, Device::SECTOR_SIZE);
+    if sectors == 1 {
+        print(b"1 sector");
+    } else {
+        print_number(sectors, b" sectors");
+    }
+}
+
 // The line that says what was made.
 fn report(h: Header) {
     messages::print_argument(STDOUT_FILENO, IMAGE);
     print(b": ");
-    io::print_decimal(STDOUT_FILENO, h.size as u64);
-    print(b" bytes, ");
-    let sectors = sectors::sectors_for(h.size, Device::SECTOR_SIZE);
-    io::print_decimal(STDOUT_FILENO, sectors as u64);
-    if sectors == 1 {
-        print(b" sector, version 0x");
-    } else {
-        print(b" sectors, version 0x");
-    }
-    io::print_hex(STDOUT_FILENO, h.version as u64, 8);
-    print(b", sum 0x");
-    io::print_hex(STDOUT_FILENO, h.sum as u64, 8);
+    report_size(h.size);
+    print_word(b", version 0x", h.version);
+    print_word(b", sum 0x", h.sum);
     if h.seal == 1 {
         print(b", sealed");
     } else {

@@ -1,4 +1,6 @@
 // Bench images made: the 84 bytes of header that a body gets, or why it can't be an image.
+pub mod version;
+
 use device::Device;
 use image::Header;
 ghost use mathlib.Core.Path.{_≡_};

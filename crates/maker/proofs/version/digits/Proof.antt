@@ -7,10 +7,10 @@ use lib.ListN.{length, drop, getD, drop-of-length-le}
 use borrow.Author.Needs.{needs}
 use Rattle.basics.specs.Choice.{yes-by, cases}
 use Rattle.line.specs.Hex.{nibbleOf}
-use Rattle.makeimage.specs.Versions.{areDigits, valueOf, digitsOf}
-use Rattle.makeimage.proofs.Digits.{bad-digit, good-digit, next-value, grows, no-digits, too-large, number}
-use Rattle.makeimage.proofs.version.digits.Statement.{statement}
-use Rattle.makeimage.proofs.version.digits.Tie as tie
+use Rattle.maker.specs.Versions.{areDigits, valueOf, digitsOf}
+use Rattle.maker.proofs.Digits.{bad-digit, good-digit, next-value, grows, no-digits, too-large, number}
+use Rattle.maker.proofs.version.digits.Statement.{statement}
+use Rattle.maker.proofs.version.digits.Tie as tie
 
 abbrev Inv-loop : tie.InvT-loop
 Inv-loop text base value₀ i₀ value i =

@@ -7,8 +7,8 @@ use lib.ListN.{length, drop}
 use Rattle.basics.specs.Choice.{pick}
 use Rattle.line.specs.Hex.{nibbleOf}
 use Rattle.image.specs.Sums.{begins}
-use Rattle.makeimage.specs.declared.version.Version.{Version}
-use Rattle.makeimage.specs.declared.version.Version.the-variants.{Is, No}
+use Rattle.maker.specs.declared.version.Version.{Version}
+use Rattle.maker.specs.declared.version.Version.the-variants.{Is, No}
 
 -- are these digits of the base?
 unfoldable pub areDigits : ℕ → List ℕ → Bool

@@ -1,7 +1,7 @@
 // The word VERSION: decimal, or hex after 0x.
 ghost use Prim.Native.Nat.{_≤_};
 ghost use mathlib.Core.Path.{_≡_};
-ghost use Rattle.makeimage.specs.Versions.{digitsOf, versionOf};
+ghost use Rattle.maker.specs.Versions.{digitsOf, versionOf};
 
 pub enum Version {
     Is(u32),

@@ -4,11 +4,11 @@ use mathlib.Core.List.{[], _∷_}
 use Rattle.basics.specs.Choice.{yes-by, no-by}
 use Rattle.image.specs.Sums.{begins}
 use Rattle.image.proofs.Laws.{from-there}
-use Rattle.makeimage.specs.Versions.{versionOf}
-use Rattle.makeimage.proofs.Digits.{prefix-fits}
+use Rattle.maker.specs.Versions.{versionOf}
+use Rattle.maker.proofs.Digits.{prefix-fits}
 use borrow.Author.Needs.{needs}
-use Rattle.makeimage.proofs.version.read.Statement.{statement}
-use Rattle.makeimage.proofs.version.read.Tie as tie
+use Rattle.maker.proofs.version.read.Statement.{statement}
+use Rattle.maker.proofs.version.read.Tie as tie
 
 slice-aggregate-starts : tie.Need-slice-aggregate-starts
 slice-aggregate-starts c = search needs

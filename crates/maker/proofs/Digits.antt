@@ -14,9 +14,9 @@ use Rattle.basics.specs.Choice.{pick, yes-by, no-by}
 use Rattle.line.specs.Hex.{nibbleOf}
 use Rattle.image.specs.Sums.{begins}
 use Rattle.image.proofs.Laws.{begins-short}
-use Rattle.makeimage.specs.declared.version.Version.{Version}
-use Rattle.makeimage.specs.declared.version.Version.the-variants.{Is, No}
-use Rattle.makeimage.specs.Versions.{areDigits, valueOf, digitsOf}
+use Rattle.maker.specs.declared.version.Version.{Version}
+use Rattle.maker.specs.declared.version.Version.the-variants.{Is, No}
+use Rattle.maker.specs.Versions.{areDigits, valueOf, digitsOf}
 
 -- the digit at i and what follows it
 module _ (base : ℕ) (s : List ℕ) (i : ℕ) (h : i < length s) where
