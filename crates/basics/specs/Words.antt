@@ -1,5 +1,6 @@
 -- Bytes in lists: numbers of two and four bytes, low byte first; zeros; a part put into a list.
 use Prim.Native.Nat.{ℕ, _+_, _*_, _/_, _%_}
+use mathlib.Core.Bool.{Bool, true, false}
 use mathlib.Core.List.{List, [], _∷_, _++_}
 use lib.ListN.{length, getD, take, drop, replicate}
 
@@ -16,6 +17,11 @@ joined a b c d = a + 256 * b + 65536 * c + 16777216 * d
 
 abbrev pub wordAt : List ℕ → ℕ → ℕ
 wordAt s at = joined (byteAt s at) (byteAt s (at + 1)) (byteAt s (at + 2)) (byteAt s (at + 3))
+
+-- a flag's byte
+abbrev pub flag : Bool → ℕ
+flag true = 1
+flag false = 0
 
 -- the bytes of a number of two bytes, and of four
 abbrev pub low : ℕ → ℕ

@@ -1,9 +1,10 @@
 -- Laws of `begins`, `find` and `total`, as the loops go.
 use mathlib.Core.Path.{_≡_, refl, sym, ap, _∙_}
 use mathlib.Core.Bool.{Bool, true, false}
-use mathlib.Core.List.{List, [], _∷_}
+use mathlib.Core.Logic.{⊎-elim}
+use mathlib.Core.List.{List, [], _∷_, _++_}
 use Prim.Native.Nat.{ℕ, zero, suc, _+_, _-_, _*_, _≤_, _<_}
-use native.Mathlib.Nat.{add-mul, one-mul, not-suc-le-zero, le-of-suc-le-suc}
+use native.Mathlib.Nat.{add-mul, one-mul, not-suc-le-zero, le-of-suc-le-suc, eq-or-lt-of-le, mod-lt}
 use native.Mathlib.Numerals.{add-one}
 use native.Mathlib.Omega.{arith}
 use lib.Dec.{eqb}
@@ -14,7 +15,7 @@ use Rattle.basics.specs.Choice.{pick}
 use Rattle.basics.specs.Words.{joined}
 use Rattle.image.specs.declared.Found.{Found}
 use Rattle.image.specs.declared.Found.the-variants.{At, Nowhere}
-use Rattle.image.specs.Sums.{total, begins}
+use Rattle.image.specs.Sums.{total, sumOf, begins}
 use Rattle.image.specs.Images.{mark, find}
 
 pick-false : (b : Bool) → pick b false false ≡ false
@@ -45,6 +46,12 @@ module _ (s m : List ℕ) (i : ℕ) (ls : i < length s) (lm : i < length m) wher
 pub begins-all : (s m : List ℕ) (i : ℕ) → i ≡ length m → begins (drop i s) (drop i m) ≡ true
 unfolding begins
 begins-all s m i e = rw (e, drop-length)
+
+-- what stands in front of a list is what it begins with
+pub begins-front : (m rest : List ℕ) → begins (m ++ rest) m ≡ true
+unfolding begins pick
+begins-front [] rest = refl
+begins-front (x ∷ m) rest = rw (eq-eqb x x refl) (begins-front m rest)
 
 -- no more of s counts than m has
 pub begins-take : (n : ℕ) (s m : List ℕ) → length m ≤ n → begins (take n s) m ≡ begins s m
@@ -94,6 +101,17 @@ unfolding find
 find-below S F zero p e = let z : _≡_ {A = ℕ} 0 1 = cc in absurd (omega arith)
 find-below S F (suc t) p e = pick-below t p (find S F t) (begins (drop (t * S) F) mark) (find-below S F t p) e
 
+-- the highest sector below b with the mark is what is found
+pub find-highest : (S : ℕ) (F : List ℕ) (p b : ℕ) → p < b → begins (drop (p * S) F) mark ≡ true
+    → ((t : ℕ) → p < t → t < b → begins (drop (t * S) F) mark ≡ false) → find S F b ≡ At p
+unfolding find pick
+find-highest S F p zero low hit above = absurd (not-suc-le-zero low)
+find-highest S F p (suc t) low hit above =
+    ⊎-elim
+    (λ (e : p ≡ t). rw (← e, hit))
+    (λ (h : p < t). rw (above t h (omega arith)) (find-highest S F p t h hit (λ u g k. above u g (omega arith))))
+    (eq-or-lt-of-le (le-of-suc-le-suc low))
+
 -- the byte at i and those from j on, with j one further
 next-byte : (s : List ℕ) (i j : ℕ) → j ≡ i + 1 → i < length s → drop i s ≡ getD s i 0 ∷ drop j s
 next-byte s i j e h = drop-cons s i 0 h ∙ ap (λ k. getD s i 0 ∷ drop k s) (sym (e ∙ add-one i))
@@ -120,3 +138,8 @@ module _ (s : List ℕ) (i : ℕ) where
 
   pub total-rest : length s < i + 4 → total (drop i s) ≡ 0
   total-rest h = total-short (drop i s) (simp length-drop (omega arith))
+
+-- the sum is a word
+pub sum-word : (body : List ℕ) → sumOf body < 4294967296
+unfolding sumOf
+sum-word body = mod-lt (total body) (omega arith)

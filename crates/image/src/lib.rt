@@ -32,7 +32,7 @@ pub struct Terms {
 }
 
 // Whether `part` begins with `mark`.
-fn starts(part: &[u8], mark: &[u8]) -> bool
+pub fn starts(part: &[u8], mark: &[u8]) -> bool
     ensures { λ r. ⌜ r ≡ begins (now (part .entry)) (now (mark .entry)) ⌝ }
 {
     if part.len() < mark.len() {

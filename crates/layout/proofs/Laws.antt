@@ -6,10 +6,11 @@ use mathlib.Core.List.{List, [], _∷_, _++_, append-assoc, append-nil}
 use native.Mathlib.Omega.{arith}
 use borrow.Author.Tests.{eqb-true}
 use lib.Dec.{eqb, lit≤}
-use lib.ListN.{length, take, drop, length-take, length-drop, length-append, length-replicate, take-append-drop, drop-of-length-le, set, length-set}
+use lib.ListN.{length, take, drop, length-take, length-drop, length-append, take-append-drop, drop-of-length-le, set, length-set}
 use lib.Seq.{take-at, drop-at, length-take-le, drop-drop, take-all, take-add, drop-append-le, set-out}
 use Rattle.basics.specs.Choice.{and-left}
 use Rattle.basics.specs.Words.{putAt, zeros}
+use Rattle.basics.proofs.Words.{length-zeros}
 use Rattle.device.specs.declared.Head.{Head}
 use Rattle.device.specs.declared.Effect.{Effect}
 use Rattle.device.specs.declared.Effect.the-variants.{Keep, Drop, Lock, Put, Auth}
@@ -24,10 +25,6 @@ tail n m l = rw (← drop-drop m n l) (take-append-drop m (drop n l))
 
 part-length : (at n : ℕ) (l : List ℕ) → at + n ≤ length l → length (part at n l) ≡ n
 part-length at n l h = simp (length-take, length-drop) (omega arith)
-
-pub length-zeros : (n : ℕ) → length (zeros n) ≡ n
-unfolding zeros
-length-zeros n = length-replicate {A = ℕ} n 0
 
 pub head-length : (h : Head) → length (headBytes h) ≡ locksAt
 unfolding headBytes

@@ -5,37 +5,22 @@ use mathlib.Core.Path.{_≡_, refl, ap, sym}
 use mathlib.Core.Bool.{Bool, true, false, _&&_, _||_}
 use mathlib.Core.List.{List, [], _∷_, _++_}
 use native.Mathlib.Omega.{arith}
-use native.Mathlib.Nat.{div-div-eq-div-mul, div-add-mod', mod-eq-of-lt}
 use borrow.Author.Tests.{eqb-true, leb-true, eq-eqb}
 use lib.Dec.{eqb, leb}
 use lib.ListN.{length, take, drop, length-append, take-append-drop}
 use lib.Seq.{take-at, take-all, drop-append-add, drop-cons}
 use Rattle.basics.specs.Choice.{pick, and-left, and-right}
-use Rattle.basics.specs.Words.{byteAt, wordAt, joined}
+use Rattle.basics.specs.Words.{byteAt, wordAt, joined, flag}
+use Rattle.basics.proofs.Words.{unword, flag-small}
 use Rattle.device.specs.declared.Device.{Device}
 use Rattle.device.specs.declared.Mode.{Mode}
 use Rattle.device.specs.declared.Mode.the-variants.{Stack, Idle, Upgrade, Delete}
 use Rattle.device.specs.Whole.{Shaped}
 use Rattle.soundness.specs.Sound.{sound}
-use Rattle.layout.specs.Layout.{recordLength, locksAt, flag, tagOf, pOf, sizeOf, versionOf, recordedOf, headBytes, encode, Word, Bounded, modeOf, headIn, locksIn, authIn, kindsIn, sizesIn, keysIn, decode, Bytes, isHead, isRecord, soundRecord}
+use Rattle.layout.specs.Layout.{recordLength, locksAt, tagOf, pOf, sizeOf, versionOf, recordedOf, headBytes, encode, Bounded, modeOf, headIn, locksIn, authIn, kindsIn, sizesIn, keysIn, decode, Bytes, isHead, isRecord, soundRecord}
 use Rattle.layout.proofs.Laws.{after-head, head-length}
 
 -- A DEVICE, ENCODED AND DECODED
-linear : (v q1 q2 q3 r0 r1 r2 r3 : ℕ)
-    → q1 * 256 + r0 ≡ v → q2 * 256 + r1 ≡ q1 → q3 * 256 + r2 ≡ q2 → r3 ≡ q3
-    → joined r0 r1 r2 r3 ≡ v
-linear v q1 q2 q3 r0 r1 r2 r3 a b c g = omega arith
-
-unword : (v : ℕ) → Word v → joined (v % 256) (v / 256 % 256) (v / 65536 % 256) (v / 16777216 % 256) ≡ v
-unword v h =
-    let f : v / 16777216 < 256 = omega arith in
-    let g : v / 16777216 % 256 ≡ v / 16777216 = mod-eq-of-lt f in
-    let a : v / 256 * 256 + v % 256 ≡ v = div-add-mod' v 256 in
-    let b : v / 65536 * 256 + v / 256 % 256 ≡ v / 256 = rw (div-div-eq-div-mul v 256 256) at (div-add-mod' (v / 256) 256) in
-    let c : v / 16777216 * 256 + v / 65536 % 256 ≡ v / 65536 =
-    rw (div-div-eq-div-mul v 65536 256) at (div-add-mod' (v / 65536) 256) in
-    linear v (v / 256) (v / 65536) (v / 16777216) (v % 256) (v / 256 % 256) (v / 65536 % 256) (v / 16777216 % 256) a b c g
-
 unflag : (b : Bool) → eqb (flag b) 1 ≡ b
 unflag true = refl
 unflag false = refl
@@ -49,10 +34,6 @@ unmode (Delete recorded) = refl
 
 skip : (n m : ℕ) (xs ys : List ℕ) → length xs ≡ n → drop (n + m) (xs ++ ys) ≡ drop m ys
 skip n m xs ys e = rw (← e, drop-append-add xs ys m)
-
-flag-small : (b : Bool) → leb (flag b) 1 ≡ true
-flag-small true = refl
-flag-small false = refl
 
 tag-small : (m : Mode) → leb (tagOf m) 3 ≡ true
 tag-small Stack = refl

@@ -1,12 +1,12 @@
 -- Paper 01, "There the device record is bytes, in one layout": 4,853 bytes, the head's 42 and then the arrays. The offsets of the head's
 -- bytes have their one home in `headIn`, `modeIn` and `isHead`, those of the arrays in the names here.
 use Prim.Native.Nat.{ℕ, _*_, _<_}
-use mathlib.Core.Bool.{Bool, true, false, _&&_, _||_}
+use mathlib.Core.Bool.{Bool, _&&_, _||_}
 use mathlib.Core.List.{List, _∷_, _++_}
 use lib.Dec.{leb, eqb}
 use lib.ListN.{length, take, drop, set}
 use Rattle.basics.specs.Choice.{pick}
-use Rattle.basics.specs.Words.{byteAt, wordAt, wordBytes, zeros, putAt}
+use Rattle.basics.specs.Words.{byteAt, wordAt, flag, wordBytes, zeros, putAt}
 use Rattle.device.specs.declared.Device.{Device}
 use Rattle.device.specs.declared.Head.{Head}
 use Rattle.device.specs.declared.Mode.{Mode}
@@ -35,10 +35,6 @@ abbrev pub keysAt : ℕ
 keysAt = 409
 
 -- A DEVICE'S BYTES
-abbrev pub flag : Bool → ℕ
-flag true = 1
-flag false = 0
-
 -- the mode as a number, and the numbers of its job: 0 where there is no such job
 abbrev pub tagOf : Mode → ℕ
 tagOf Stack = 0

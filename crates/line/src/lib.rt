@@ -21,7 +21,7 @@ pub struct Text {
 }
 
 // The value of a hex digit, and 16 of any other character.
-fn nibble(c: u8) -> u8
+pub fn nibble(c: u8) -> u8
     ensures value { λ r. ⌜ r ≡ nibbleOf c ⌝ }
     ensures small { λ r. ⌜ r ≤ 16 ⌝ }
 {

@@ -6,9 +6,10 @@ use mathlib.Core.List.{List}
 use native.Mathlib.Omega.{arith}
 use borrow.Author.Tests.{leb-true, leb-false, le-leb, eqb-true, eq-eqb, ne-eqb}
 use lib.Dec.{leb, eqb}
-use lib.ListN.{length, length-set, length-replicate, length-append, length-take, length-drop}
+use lib.ListN.{length, length-set, length-append, length-take, length-drop}
 use Rattle.basics.specs.Choice.{pick}
-use Rattle.basics.specs.Words.{zeros, putAt}
+use Rattle.basics.specs.Words.{putAt}
+use Rattle.basics.proofs.Words.{length-zeros}
 use Rattle.packet.specs.declared.Command.{Command}
 use Rattle.packet.specs.declared.Command.the-variants.{GetState, FwUpgrade, FwDelete, UpdateAuthKey, LockAuthKey, StoreUsrKey, LoadUsrKey, StartWs, LockUsrKey, UnloadUsrKey, ActivateAntirollback}
 use Rattle.answer.specs.declared.Checked.{Checked}
@@ -110,10 +111,6 @@ module _ (n : ℕ) where
     pub decided-fits : fits (decided h l checked command i n .effect) n ≡ true
     unfolding decided
     decided-fits = by-mode (h .mode)
-
-length-zeros : (n : ℕ) → length (zeros n) ≡ n
-unfolding zeros
-length-zeros n = length-replicate {A = ℕ} n 0
 
 -- n bytes put at an index of a list
 put-length : (l k : List ℕ) (at n : ℕ) → length l ≡ n → at + length k ≤ n → length (putAt l at k) ≡ n

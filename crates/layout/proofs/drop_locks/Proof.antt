@@ -1,4 +1,5 @@
-use Rattle.layout.proofs.Laws.{locks-length, length-zeros}
+use Rattle.basics.proofs.Words.{length-zeros}
+use Rattle.layout.proofs.Laws.{locks-length}
 use borrow.Author.Needs.{needs}
 use Rattle.layout.proofs.drop_locks.Statement.{statement}
 use Rattle.layout.proofs.drop_locks.Tie as tie

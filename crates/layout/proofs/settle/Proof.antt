@@ -1,5 +1,6 @@
 use Rattle.basics.specs.Words.{zeros}
-use Rattle.layout.proofs.Laws.{locks-first, length-zeros}
+use Rattle.basics.proofs.Words.{length-zeros}
+use Rattle.layout.proofs.Laws.{locks-first}
 use borrow.Author.Needs.{needs}
 use Rattle.layout.proofs.settle.Statement.{statement}
 use Rattle.layout.proofs.settle.Tie as tie
