@@ -162,6 +162,14 @@ def good(bench):
     bench.makes(b'four', '1', 1, True, program=bench.path('link'))
 
 
+def documented(bench):
+    """The example of docs/IMAGES.md prints what is written there."""
+    example = (b'body\n' * 2000)[:8112]
+    bench.makes(example, '0x00010203', 0x00010203, True)
+    with open(os.path.join(os.path.dirname(os.path.dirname(bench.program)), 'docs/IMAGES.md')) as page:
+        expect('docs/IMAGES.md has its line', f'    {line_of("image.bin", example, 0x00010203, True, None)}' in page.readlines(), True)
+
+
 def damaged_words(bench):
     words = [bench.write('body.bin', b'body'), 'new.bin', '1', 'sealed', bench.write('key.bin', bytes(64))]
     for count in (0, 1, 2, 3):
@@ -196,6 +204,8 @@ def damaged_files(bench):
     # where several are wrong, the word VERSION is told first, then the seal, the key, the body, and the file to make last
     bench.refuses(['odd.bin', 'body.bin', 'x', 'y', 'odd.key'], f"makeimage: {NUMBER}: 'x' is not\n")
     bench.refuses(['odd.bin', 'body.bin', '1', 'y', 'odd.key'], f"makeimage: {SEAL}: 'y' is not\n")
+    bench.refuses(['odd.bin', 'body.bin', '0xFFFFFFFF', 'sealed'], f"makeimage: BODY must have a multiple of 4 bytes: 'odd.bin' has {LONGEST - 1}\n")
+    bench.refuses(['body.bin', 'body.bin', '0xFFFFFFFF', 'sealed'], f"makeimage: {NUMBER}: '0xFFFFFFFF' is not\n")
     bench.refuses(['long.bin', 'body.bin', '1', 'sealed', 'odd.key'], "makeimage: KEY must have exactly 64 bytes: 'odd.key' has more\n")
     bench.refuses(['long.bin', 'body.bin', '1', 'sealed', 'key.bin'], f"makeimage: BODY must have at most {LONGEST} bytes: 'long.bin' has more\n")
 
@@ -240,7 +250,7 @@ def without_program(bench):
 def main():
     bench = Bench(sys.argv[1], int(sys.argv[2]))
     try:
-        for part in (good, damaged_words, damaged_files, damaged_images, without_program):
+        for part in (good, documented, damaged_words, damaged_files, damaged_images, without_program):
             part(bench)
     except Failure as failure:
         print(f'tests/makeimage: FAILED, seed {sys.argv[2]}: {failure}')

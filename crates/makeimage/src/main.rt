@@ -23,18 +23,20 @@ const SEAL: usize = 4;
 
 const KEY: usize = 5;
 
+// The word after VERSION.
 enum Seal {
     Sealed,
     Unsealed,
     Neither,
 }
 
-// The tag key, zeros where there is none. What is wrong with it was said.
+// The tag key, zeros where there is none.
 struct Key {
     bytes: [u8; 64],
     failed: bool,
 }
 
+// VERSION is no number, or the one that stands for no stack.
 fn refuse_version() {
     messages::refuse(
         b"VERSION must be a number from 0 to 4294967294, decimal or hex after 0x",
@@ -42,6 +44,7 @@ fn refuse_version() {
     );
 }
 
+// VERSION; what is wrong with it is said.
 fn version_asked() -> Version {
     let mut text = io::buffer();
     let n = os::arg(VERSION, &mut text);
@@ -53,6 +56,7 @@ fn version_asked() -> Version {
     asked
 }
 
+// sealed or unsealed; what is neither is said.
 fn seal_asked() -> Seal {
     let mut text = io::buffer();
     let n = os::arg(SEAL, &mut text);
@@ -66,6 +70,7 @@ fn seal_asked() -> Seal {
     Seal::Neither
 }
 
+// KEY, where there is one; what is wrong with it is said.
 fn key_asked(tagged: bool) -> Key {
     let mut bytes = [0u8; 64];
     if !tagged {
@@ -85,6 +90,7 @@ fn key_asked(tagged: bool) -> Key {
     }
 }
 
+// To standard output, a part of the line that says what was made.
 fn print(text: &[u8]) {
     io::write_all(STDOUT_FILENO, text);
 }
@@ -129,11 +135,12 @@ fn report(h: Header) {
     }
 }
 
+// BODY is longer than the room for it.
 fn refuse_long() {
     messages::refuse_length(b"BODY must have at most ", maker::LONGEST, BODY, 0, true);
 }
 
-// Makes the image of a body.
+// Makes the image of a body; what can't be one is said.
 fn make(body: &[u8], wanted: Wanted) {
     let making = maker::make(body, wanted);
     let header = making.header;
@@ -168,6 +175,7 @@ fn room() -> [u8; maker::LONGEST] {
     [0; maker::LONGEST]
 }
 
+// The files, KEY and then BODY.
 fn start(version: u32, sealed: bool, tagged: bool) {
     let asked = key_asked(tagged);
     let key = asked.bytes;
@@ -195,6 +203,7 @@ fn start(version: u32, sealed: bool, tagged: bool) {
     );
 }
 
+// The words are looked at before any file.
 fn main() {
     let words = os::arg_count();
     if (words < 5) | (6 < words) {

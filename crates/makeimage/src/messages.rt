@@ -23,6 +23,7 @@ pub fn print_argument(fd: i32, argument: usize) {
     print_plain(fd, &text[..n]);
 }
 
+// The wrong number of words.
 pub fn usage() {
     say(b"usage: makeimage BODY IMAGE VERSION sealed|unsealed [KEY]\n");
 }

@@ -1,5 +1,5 @@
 -- Laws of digits, one at a time.
-use Prim.Native.Nat.{ℕ, suc, _+_, _*_, _≤_, _<_}
+use Prim.Native.Nat.{ℕ, _+_, _*_, _≤_, _<_}
 use mathlib.Core.Path.{_≡_, refl, sym, ap, _∙_}
 use mathlib.Core.Bool.{Bool, true, false}
 use mathlib.Core.List.{List, [], _∷_}
@@ -14,7 +14,6 @@ use Rattle.basics.specs.Choice.{pick, yes-by, no-by}
 use Rattle.line.specs.Hex.{nibbleOf}
 use Rattle.image.specs.Sums.{begins}
 use Rattle.image.proofs.Laws.{begins-short}
-use Rattle.maker.specs.declared.version.Version.{Version}
 use Rattle.maker.specs.declared.version.Version.the-variants.{Is, No}
 use Rattle.maker.specs.Versions.{areDigits, valueOf, digitsOf}
 

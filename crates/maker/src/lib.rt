@@ -27,6 +27,7 @@ pub enum Unmade {
     TooLong,
 }
 
+// What a body can be made.
 pub enum Made {
     Image(Header),
     Not(Unmade),

@@ -3,6 +3,7 @@ ghost use Prim.Native.Nat.{_≤_};
 ghost use mathlib.Core.Path.{_≡_};
 ghost use Rattle.maker.specs.Versions.{digitsOf, versionOf};
 
+// The version that a word stands for.
 pub enum Version {
     Is(u32),
     No,
@@ -32,6 +33,7 @@ fn digits(text: &[u8], base: u8) -> Version
     Version::Is(value as u32)
 }
 
+// Hex digits after 0x, else decimal ones.
 pub fn read(text: &[u8]) -> Version
     ensures { λ r. ⌜ r ≡ versionOf (now (text .entry)) ⌝ }
 {
