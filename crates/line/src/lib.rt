@@ -47,7 +47,7 @@ pub fn nibble(c: u8) -> u8
 }
 
 // Puts the bytes that the pairs of a line stand for into out. False where the line is no pairs.
-fn decode(line: &[u8], out: &mut [u8]) -> bool
+pub fn decode(line: &[u8], out: &mut [u8]) -> bool
     requires { ⌜ length (now line) ≤ 2 * length (now out) ⌝ }
     ensures pairs { λ r. ⌜ r ≡ arePairs (now (line .entry)) ⌝ }
     ensures bytes { λ r. ⌜ (r ≡ true → take (length (now (line .entry)) / 2) (now (out .exit)) ≡ bytesOf (now (line .entry))) ⌝ }
@@ -73,7 +73,7 @@ fn decode(line: &[u8], out: &mut [u8]) -> bool
 }
 
 // A hex digit in capitals.
-fn digit(d: u8) -> u8
+pub fn digit(d: u8) -> u8
     requires { ⌜ d < 16 ⌝ }
     ensures { λ r. ⌜ r ≡ capital d ⌝ }
 {

@@ -13,7 +13,8 @@ pub fn sectors_for(bytes: u32, size: usize) -> usize
     ((bytes as usize) + (size - 1)) / size
 }
 
-fn fill(part: &mut [u8], value: u8)
+// Every byte of `part` becomes `value`.
+pub fn fill(part: &mut [u8], value: u8)
     ensures { λ _. ⌜ now (part .exit) ≡ replicate (length (now (part .entry))) value ⌝ }
 {
     let mut i = 0;

@@ -1,0 +1,132 @@
+// Plays a script on one device: reads orders, one a line, from standard input, and writes for each line exactly one reply line. docs/PLAY.md has
+// every order.
+mod bench;
+mod input;
+mod say;
+mod state;
+
+use device::Device;
+use input::Input;
+use layout::LENGTH;
+use script::Fault;
+use script::Order;
+
+// A packet to the device.
+fn packet(rec: &mut [u8], flash: &mut [u8], line: &[u8], hex: usize) {
+    let mut bytes = [0u8; 260];
+    let n = script::packet_bytes(line, hex, &mut bytes);
+    let mut reply = [0u8; 8];
+    let verdict = record::handle(rec, flash, &bytes[..n], &mut reply);
+    say::outcome(verdict, b"reply ", reply::next_message(b"", &reply));
+}
+
+fn restart(rec: &mut [u8]) {
+    let mut event = [0u8; 6];
+    let verdict = record::restart(rec, &mut event);
+    say::outcome(verdict, b"event ", &event);
+}
+
+// The power is cut in the next store.
+fn cut(rec: &mut [u8], flash: &mut [u8], filler: u8, through: bool) {
+    let mut event = [0u8; 6];
+    let filler = [filler; Device::SECTOR_SIZE];
+    let verdict = record::cut(rec, flash, &filler, through, &mut event);
+    say::outcome(verdict, b"event ", &event);
+}
+
+// Up to `stores` stores, while one is left. (A job has at least one. Work is not refused here: the record stays sound, and the flash has its
+// length.)
+fn work(rec: &mut [u8], flash: &mut [u8], stores: usize) {
+    let mut made = 0;
+    let mut left = state::has_job(rec) as usize;
+    while made < stores && 0 < left {
+        let done = record::work(rec, flash);
+        left = done.left;
+        made += 1;
+    }
+    say::made(made, left);
+}
+
+// The device and the flash as at the start.
+fn fresh(rec: &mut [u8], flash: &mut [u8]) {
+    record::fresh(rec);
+    sectors::fill(flash, 0xFF);
+    say::ok();
+}
+
+fn fill(flash: &mut [u8], sector: usize, byte: u8) {
+    bench::fill(flash, sector, byte);
+    say::ok();
+}
+
+fn bad(fault: Fault) {
+    match fault {
+        Fault::LineLong => say::text(b"bad line: over 4400 bytes\n"),
+        Fault::NoOrder => say::text(b"bad order: unknown\n"),
+        Fault::PacketLong => say::text(b"bad packet: over 260 bytes\n"),
+        Fault::NoPairs => say::text(b"bad packet: no hex pairs\n"),
+        Fault::NoCount => say::text(b"bad count: 1 to 4294967295\n"),
+        Fault::NoSector => say::text(b"bad sector: 0 to 243\n"),
+        Fault::NoByte => say::text(b"bad byte: two hex digits\n"),
+        Fault::NoOutcome => say::text(b"bad word: through or not\n"),
+        Fault::NoFile => say::text(b"bad file: no name\n"),
+    }
+}
+
+// Loads the file whose name stands in the line from an offset on.
+fn load(flash: &mut [u8], sector: usize, line: &[u8], file: usize) {
+    if file <= line.len() {
+        bench::load(flash, sector, &line[file..]);
+    }
+}
+
+// Answers a line.
+fn answer(rec: &mut [u8], flash: &mut [u8], line: &[u8]) {
+    bench::map(flash);
+    state::show(rec);
+    packet(rec, flash, line, 0);
+}
+
+// Answers what was read: a last line with no newline counts if it is not empty.
+fn answer_read(rec: &mut [u8], flash: &mut [u8], line: &[u8], ended: bool) {
+    if ended | (0 < line.len()) {
+        answer(rec, flash, line);
+    }
+}
+
+// Plays the script. The count of turns is there because every loop must end: no script has so many lines.
+fn play(rec: &mut [u8], flash: &mut [u8], text: &mut [u8], buffer: &mut [u8]) {
+    let mut input = Input { at: 0, end: 0 };
+    let mut more = true;
+    let mut turns = u64::MAX;
+    while 0 < turns && more {
+        let line = input::read_line(text, buffer, input);
+        let n = line.length;
+        answer_read(rec, flash, &text[..n], line.ended);
+        more = line.ended;
+        input = line.input;
+        turns -= 1;
+    }
+}
+
+fn no_record() -> [u8; LENGTH] {
+    [0; LENGTH]
+}
+
+fn erased_flash() -> [u8; bench::FLASH] {
+    [0xFF; bench::FLASH]
+}
+
+// A fresh device, and the script.
+fn start(rec: &mut [u8], flash: &mut [u8]) {
+    let mut text = input::room();
+    let mut buffer = io::buffer();
+    record::fresh(rec);
+    play(rec, flash, &mut text, &mut buffer);
+}
+
+fn main() {
+    let mut rec = no_record();
+    let mut flash = erased_flash();
+    start(&mut rec, &mut flash);
+}

@@ -1,0 +1,13 @@
+use borrow.Author.Needs.{needs}
+use Rattle.script.proofs.Laws.{same-by}
+use Rattle.script.proofs.is.Statement.{statement}
+use Rattle.script.proofs.is.Tie as tie
+
+same-requires : tie.Need-same-requires
+same-requires c κs = search needs
+
+returns : tie.Need-returns
+returns c = same-by (c .same .result) _ _ (c .same .ensures .0) (c .same .ensures .1)
+
+pub is-spec : {M : Type 1} → statement M
+is-spec = tie.close (tie.spec same-requires returns)
