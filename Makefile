@@ -15,7 +15,7 @@ EXAMPLES := $(wildcard examples/*.c)
 # anywhere.
 COMPILER := $(if $(and $(filter x86_64,$(shell uname -m)),$(shell command -v $(CC) 2>/dev/null)),$(CC),bin/cc86)
 
-.PHONY: all test demo bench install uninstall clean help always
+.PHONY: all programs test demo bench install uninstall clean help always
 all: $(LIBRARY)
 
 $(LIBRARY): $(SOURCES)
@@ -25,6 +25,14 @@ $(LIBRARY): $(SOURCES)
 	@rt staticlib grzelotka >$(BUILD)/rt.log || { cat $(BUILD)/rt.log; exit 1; }
 	@cp target/staticlib/libgrzelotka.a $@
 	@echo "$@ is built."
+
+# the programs of the bench, in target/bin; bin/makeimage and bin/play run theirs
+programs:
+	@command -v rt >/dev/null || { echo "make: the kit's command, rt, is not in PATH: it proves and compiles the programs" >&2; exit 2; }
+	@echo "Proving the programs and what they stand on; the first time this takes some minutes."
+	@mkdir -p $(BUILD)
+	@rt check packets makeimage play >$(BUILD)/rt.log || { cat $(BUILD)/rt.log; exit 1; }
+	@echo "bin/makeimage, bin/play and target/bin/packets are built."
 
 test:
 	.ci/run
@@ -65,6 +73,7 @@ clean:
 
 help:
 	@echo 'make                       $(LIBRARY): the library, proved and compiled'
+	@echo 'make programs              bin/makeimage, bin/play and target/bin/packets, proved and compiled'
 	@echo 'make demo                  an updater plays an upgrade, with damaged commands and with the power cut in every store'
 	@echo 'make demo IMAGE=FILE       the same with this image as the new stack'
 	@echo 'make test                  the gate: every proof, every must-fail edit, every test'
