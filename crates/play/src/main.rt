@@ -82,9 +82,22 @@ fn load(flash: &mut [u8], sector: usize, line: &[u8], file: usize) {
 
 // Answers a line.
 fn answer(rec: &mut [u8], flash: &mut [u8], line: &[u8]) {
-    bench::map(flash);
-    state::show(rec);
-    packet(rec, flash, line, 0);
+    match script::read(line) {
+        Order::Nothing => say::ok(),
+        Order::Packet { hex } => packet(rec, flash, line, hex),
+        Order::Restart => restart(rec),
+        Order::Work { stores } => work(rec, flash, stores),
+        Order::Cut { filler, through } => cut(rec, flash, filler, through),
+        Order::Load { sector, file } => load(flash, sector, line, file),
+        Order::Dump { sector } => bench::dump(flash, sector),
+        Order::Map => bench::map(flash),
+        Order::Record => say::line(rec),
+        Order::State => state::show(rec),
+        Order::Erase { sector } => fill(flash, sector, 0xFF),
+        Order::Fill { sector, byte } => fill(flash, sector, byte),
+        Order::Fresh => fresh(rec, flash),
+        Order::Bad(fault) => bad(fault),
+    }
 }
 
 // Answers what was read: a last line with no newline counts if it is not empty.
