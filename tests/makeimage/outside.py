@@ -240,7 +240,7 @@ def without_program(bench):
         shutil.copy(os.path.join(os.path.dirname(os.path.dirname(bench.program)), name), os.path.join(root, name))
     wrapper = os.path.join(root, 'bin/makeimage')
     words = ['body.bin', 'new.bin', '1', 'sealed']
-    bench.refuses(words, f"makeimage: the program is not built yet: run 'rt check makeimage' in {os.path.realpath(root)}\n", program=wrapper)
+    bench.refuses(words, f"makeimage: the program is not built yet: run 'make programs' in {os.path.realpath(root)}\n", program=wrapper)
     os.mkdir(bench.path('tools'))
     for tool in ('sh', 'dirname', 'realpath'):
         os.symlink(shutil.which(tool), bench.path(f'tools/{tool}'))
