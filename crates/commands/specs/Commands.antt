@@ -10,9 +10,8 @@ use Rattle.answer.specs.declared.Answer.the-variants.{State, Accepted, Failed}
 use Rattle.answer.specs.declared.Checked.{Checked}
 use Rattle.answer.specs.declared.Checked.the-variants.{Good, Fails, Erases}
 use Rattle.device.specs.declared.Head.{Head}
-use Rattle.device.specs.declared.Step.{Step}
+use Rattle.device.specs.Types.{Step, Keep, Drop, Auth}
 use Rattle.device.specs.declared.Mode.the-variants.{Stack, Idle, Upgrade, Delete}
-use Rattle.device.specs.declared.Effect.the-variants.{Keep, Drop, Auth}
 use Rattle.device.specs.Heads.{withError, withMode, withAsked, withAuth, withLocked, withFloor, lostHead}
 use Rattle.device.specs.Steps.{step, failed, accepted}
 

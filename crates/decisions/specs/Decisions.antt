@@ -1,16 +1,16 @@
 -- Paper 01, "What lawful commands do": the three situations, and which command is which.
 use Prim.Native.Nat.{ℕ}
-use mathlib.Core.Bool.{Bool, true, false, _&&_}
+use mathlib.Core.Bool.{Bool, _&&_}
 use lib.Dec.{eqb}
 use Rattle.packet.specs.Packets.{opcodeOf}
 use Rattle.packet.specs.declared.Command.{Command}
 use Rattle.packet.specs.declared.Command.the-variants.{GetState, FwUpgrade, FwDelete, UpdateAuthKey, LockAuthKey, StoreUsrKey, LoadUsrKey, StartWs, LockUsrKey, UnloadUsrKey, ActivateAntirollback}
 use Rattle.answer.specs.declared.Checked.{Checked}
 use Rattle.device.specs.declared.Head.{Head}
-use Rattle.device.specs.declared.Step.{Step}
-use Rattle.device.specs.declared.Look.{Look}
+use Rattle.device.specs.Types.{Step, Look}
 use Rattle.device.specs.declared.Mode.{Mode}
 use Rattle.device.specs.declared.Mode.the-variants.{Stack, Idle, Upgrade, Delete}
+use Rattle.device.specs.Modes.{isIdle}
 use Rattle.keys.specs.Keys.{storeKey, loadKey, lockKey, unloadKey}
 use Rattle.commands.specs.Commands.{stackRunning, jobUnderWay, getState, deleteStack, startStack, updateAuth, lockAuth, antirollback, upgrade}
 
@@ -40,11 +40,5 @@ decided h l checked command i n =
     situated (h .mode) (stackRunning h command) (jobUnderWay h command) (idle h l checked command i n)
 
 -- an image is looked for by FW_UPGRADE while FUS is idle, and by nothing else
-abbrev pub isIdle : Mode → Bool
-isIdle Stack = false
-isIdle Idle = true
-isIdle (Upgrade p size version recorded) = false
-isIdle (Delete recorded) = false
-
 abbrev pub searches : Mode → Command → Bool
 searches mode command = isIdle mode && eqb (opcodeOf command) 0xFC54

@@ -1,76 +1,54 @@
-// What FUS decides on a lawful command: which situation, and which command.
+// What FUS does on a lawful command: which situation, and which command.
+use answer::Answer;
 use answer::Checked;
-use device::Head;
-use device::Look;
-use device::Mode;
-use device::Step;
+use device::fields;
 use packet::Command;
 ghost use mathlib.Core.Path.{_≡_};
-ghost use Rattle.decisions.specs.Decisions.{idle, decided, isIdle, searches};
+ghost use lib.ListN.{length};
+ghost use Rattle.packet.specs.declared.Command.the-variants.{UpdateAuthKey};
+ghost use Rattle.device.specs.Layout.{recordLength, modeIn, headIn};
+ghost use Rattle.device.specs.Fields.{Held, lookIn};
+ghost use Rattle.device.specs.Done.{done, stepped};
+ghost use Rattle.decisions.specs.Decisions.{idle, decided, searches};
 
-// A command while FUS is idle: what was looked up at the payload's first byte, what the checks found, that byte, and the number of key bytes.
-pub fn idle(h: Head, look: Look, checked: Checked, command: Command, first: u8, size: usize) -> Step
-    ensures { λ r. ⌜ r ≡ idle h look checked command first size ⌝ }
+// A command while FUS is idle: what the checks found, the payload's first byte, and the key bytes.
+fn idle(rec: &mut [u8], checked: Checked, command: Command, first: u8, key: &[u8]) -> Answer
+    requires { ⌜ Held (now rec) ⌝ }
+    requires { ⌜ (command ≡ UpdateAuthKey → length (now key) ≡ 64) ⌝ }
+    ensures { λ r. ⌜ done r (now (rec .exit)) ≡ stepped (idle (headIn (now (rec .entry))) (lookIn (now (rec .entry)) first) checked command first (length (now (key .entry)))) (now (key .entry)) (now (rec .entry)) ⌝ }
 {
     match command {
-        Command::GetState => commands::get_state(h),
-        Command::FwUpgrade => commands::upgrade(h, checked),
-        Command::FwDelete => commands::delete_stack(h),
-        Command::UpdateAuthKey => commands::update_auth(h),
-        Command::LockAuthKey => commands::lock_auth(h),
-        Command::StoreUsrKey => keys::store_key(h, look, first, size),
-        Command::LoadUsrKey => keys::load_key(h, look, first),
-        Command::StartWs => commands::start_stack(h),
-        Command::LockUsrKey => keys::lock_key(h, first),
-        Command::UnloadUsrKey => keys::unload_key(h, first),
-        Command::ActivateAntirollback => commands::antirollback(h),
+        Command::GetState => commands::get_state(rec),
+        Command::FwUpgrade => commands::upgrade(rec, checked),
+        Command::FwDelete => commands::delete_stack(rec),
+        Command::UpdateAuthKey => commands::update_auth(rec, key),
+        Command::LockAuthKey => commands::lock_auth(rec),
+        Command::StoreUsrKey => keys::store_key(rec, first, key),
+        Command::LoadUsrKey => keys::load_key(rec, first),
+        Command::StartWs => commands::start_stack(rec),
+        Command::LockUsrKey => keys::lock_key(rec, first),
+        Command::UnloadUsrKey => keys::unload_key(rec, first),
+        Command::ActivateAntirollback => commands::antirollback(rec),
     }
 }
 
-// The decision, in the three situations.
-pub fn decide(
-    h: Head,
-    look: Look,
-    checked: Checked,
-    command: Command,
-    first: u8,
-    size: usize,
-) -> Step
-    ensures { λ r. ⌜ r ≡ decided h look checked command first size ⌝ }
+// A lawful command, in the three situations.
+pub fn command(rec: &mut [u8], checked: Checked, command: Command, first: u8, key: &[u8]) -> Answer
+    requires { ⌜ Held (now rec) ⌝ }
+    requires { ⌜ (command ≡ UpdateAuthKey → length (now key) ≡ 64) ⌝ }
+    ensures { λ r. ⌜ done r (now (rec .exit)) ≡ stepped (decided (headIn (now (rec .entry))) (lookIn (now (rec .entry)) first) checked command first (length (now (key .entry)))) (now (key .entry)) (now (rec .entry)) ⌝ }
 {
-    let mode = h.mode;
-    match mode {
-        Mode::Stack => commands::stack_running(h, command),
-        Mode::Idle => idle(h, look, checked, command, first, size),
-        Mode::Upgrade {
-            p: _,
-            size: _,
-            version: _,
-            recorded: _,
-        } => commands::job_under_way(h, command),
-        Mode::Delete { recorded: _ } => commands::job_under_way(h, command),
-    }
-}
-
-pub fn is_idle(mode: Mode) -> bool
-    ensures { λ r. ⌜ r ≡ isIdle mode ⌝ }
-{
-    match mode {
-        Mode::Stack => false,
-        Mode::Idle => true,
-        Mode::Upgrade {
-            p: _,
-            size: _,
-            version: _,
-            recorded: _,
-        } => false,
-        Mode::Delete { recorded: _ } => false,
+    match fields::tag(rec) {
+        0 => commands::stack_running(rec, command),
+        1 => idle(rec, checked, command, first, key),
+        _ => commands::job_under_way(rec, command),
     }
 }
 
 // Is an image looked for?
-pub fn searches(mode: Mode, command: Command) -> bool
-    ensures { λ r. ⌜ r ≡ searches mode command ⌝ }
+pub fn searches(rec: &[u8], command: Command) -> bool
+    requires { ⌜ length (now rec) ≡ recordLength ⌝ }
+    ensures { λ r. ⌜ r ≡ searches (modeIn (now (rec .entry))) command ⌝ }
 {
-    is_idle(mode) & (packet::opcode_of(command) == 0xFC54)
+    fields::is_idle(rec) & (packet::opcode_of(command) == 0xFC54)
 }

@@ -1,1 +1,4 @@
+pub mod Stored
 pub mod Laws
+pub mod Records
+pub mod RoundTrip

@@ -40,6 +40,11 @@ abbrev pub withFloor : ℕ → Head → Head
 withFloor v h =
     record { present = h .present; version = h .version; sectors = h .sectors; boundary = h .boundary; mode = h .mode; count = h .count; auth = h .auth; locked = h .locked; rollback = true; floor = v; loaded = h .loaded; asked = h .asked; error = h .error; made = h .made }
 
+-- the stack, where it begins, the floor and the mode, as a job's last store puts them in
+abbrev pub withStack : (present : Bool) (version sectors boundary floor : ℕ) (mode : Mode) → Head → Head
+withStack present version sectors boundary floor mode h =
+    record { present = present; version = version; sectors = sectors; boundary = boundary; mode = mode; count = h .count; auth = h .auth; locked = h .locked; rollback = h .rollback; floor = floor; loaded = h .loaded; asked = h .asked; error = h .error; made = h .made }
+
 -- lost: loaded key, pending error, first-state-request mark, progress inside one sector (and the key locks, which are no part of the head)
 abbrev pub lostHead : Head → Head
 lostHead h =

@@ -3,7 +3,7 @@ use Prim.Native.Nat.{ℕ, _*_}
 use mathlib.Core.Bool.{false}
 use Rattle.basics.specs.Words.{zeros}
 use Rattle.device.specs.declared.Head.{Head}
-use Rattle.device.specs.declared.Device.{Device}
+use Rattle.device.specs.Types.{Device}
 use Rattle.device.specs.declared.Mode.the-variants.{Idle}
 
 -- bytes in a sector, sectors of the lent flash, and the first sector of FUS: Device::SECTOR_SIZE, SECTOR_COUNT and FUS_SECTOR

@@ -1,4 +1,9 @@
+pub mod Done
+pub mod Fields
 pub mod Heads
 pub mod Kind
+pub mod Layout
+pub mod Modes
 pub mod Steps
+pub mod Types
 pub mod Whole

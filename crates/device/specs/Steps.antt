@@ -4,9 +4,7 @@ use Rattle.answer.specs.declared.Failure.{Failure}
 use Rattle.answer.specs.declared.Answer.{Answer}
 use Rattle.answer.specs.declared.Answer.the-variants.{Failed}
 use Rattle.device.specs.declared.Head.{Head}
-use Rattle.device.specs.declared.Step.{Step}
-use Rattle.device.specs.declared.Effect.{Effect}
-use Rattle.device.specs.declared.Effect.the-variants.{Keep}
+use Rattle.device.specs.Types.{Step, Effect, Keep}
 use Rattle.device.specs.Heads.{withError}
 
 abbrev pub step : Head → Answer → Effect → Step

@@ -7,11 +7,7 @@ use lib.Dec.{leb, eqb}
 use lib.ListN.{getD, set, length}
 use Rattle.basics.specs.Words.{putAt, zeros}
 use Rattle.device.specs.declared.Head.{Head}
-use Rattle.device.specs.declared.Step.{Step}
-use Rattle.device.specs.declared.Look.{Look}
-use Rattle.device.specs.declared.Device.{Device}
-use Rattle.device.specs.declared.Effect.{Effect}
-use Rattle.device.specs.declared.Effect.the-variants.{Keep, Drop, Lock, Put, Auth}
+use Rattle.device.specs.Types.{Step, Look, Device, Effect, Keep, Drop, Lock, Put, Auth}
 use Rattle.device.specs.Heads.{lostHead}
 
 -- the lengths of a device's arrays

@@ -8,8 +8,8 @@ ghost use lib.ListN.{length};
 ghost use Rattle.packet.specs.Packets.{readOf};
 ghost use Rattle.reply.specs.Message.{nextMessage};
 ghost use Rattle.services.specs.Calls.{first};
-ghost use Rattle.layout.specs.Layout.{recordLength};
-ghost use Rattle.record.specs.InPlace.{freshInPlace, handledInPlace, restartedInPlace, workedInPlace, cutInPlace};
+ghost use Rattle.device.specs.Layout.{recordLength};
+ghost use Rattle.services.specs.InPlace.{freshInPlace, handledInPlace, restartedInPlace, workedInPlace, cutInPlace};
 ghost use Rattle.grzelotka.specs.Numbers.{numberFor, readNumber, readOpcode, readLength};
 
 // 0 for a call that is taken, else the refusal's number.
@@ -26,7 +26,7 @@ fn number_for(verdict: Verdict) -> u8
 pub extern "C" fn grzelotka_record_bytes() -> usize
     ensures { λ r. ⌜ r ≡ recordLength ⌝ }
 {
-    layout::LENGTH
+    device::places::LENGTH
 }
 
 #[no_mangle]
@@ -34,7 +34,7 @@ pub extern "C" fn grzelotka_fresh(rec: &mut [u8]) -> u8
     ensures { λ r. ⌜ r ≡ numberFor (freshInPlace (now (rec .entry)) .verdict) ⌝ }
     ensures { λ _. ⌜ now (rec .exit) ≡ freshInPlace (now (rec .entry)) .bytes ⌝ }
 {
-    number_for(record::fresh(rec))
+    number_for(services::fresh(rec))
 }
 
 // The opcode and the payload's length of a lawful packet; 0 and 0 of a refused one.
@@ -71,7 +71,7 @@ pub extern "C" fn grzelotka_handle(
     ensures { λ _. ⌜ now (flash .exit) ≡ handledInPlace first (now (rec .entry)) (now (flash .entry)) (now (packet .entry)) (now (reply .entry)) .flash ⌝ }
     ensures { λ _. ⌜ now (reply .exit) ≡ handledInPlace first (now (rec .entry)) (now (flash .entry)) (now (packet .entry)) (now (reply .entry)) .reply ⌝ }
 {
-    number_for(record::handle(rec, flash, packet, reply))
+    number_for(services::handle(rec, flash, packet, reply))
 }
 
 #[no_mangle]
@@ -80,7 +80,7 @@ pub extern "C" fn grzelotka_restart(rec: &mut [u8], event: &mut [u8]) -> u8
     ensures { λ _. ⌜ now (rec .exit) ≡ restartedInPlace first (now (rec .entry)) (now (event .entry)) .bytes ⌝ }
     ensures { λ _. ⌜ now (event .exit) ≡ restartedInPlace first (now (rec .entry)) (now (event .entry)) .reply ⌝ }
 {
-    number_for(record::restart(rec, event))
+    number_for(services::restart(rec, event))
 }
 
 #[no_mangle]
@@ -90,10 +90,7 @@ pub extern "C" fn grzelotka_work(rec: &mut [u8], flash: &mut [u8], left: &mut u3
     ensures { λ _. ⌜ now (flash .exit) ≡ workedInPlace first (now (rec .entry)) (now (flash .entry)) .flash ⌝ }
     ensures { λ _. ⌜ now (left .exit) ≡ workedInPlace first (now (rec .entry)) (now (flash .entry)) .left ⌝ }
 {
-    let worked = record::work(rec, flash);
-    *left = worked.left as u32;
-    let verdict = worked.verdict;
-    number_for(verdict)
+    number_for(services::work(rec, flash, left))
 }
 
 // Any nonzero `through` lets a record store go through.
@@ -110,7 +107,7 @@ pub extern "C" fn grzelotka_cut(
     ensures { λ _. ⌜ now (flash .exit) ≡ cutInPlace first (now (rec .entry)) (now (flash .entry)) (now (filler .entry)) (not (eqb through 0)) (now (event .entry)) .flash ⌝ }
     ensures { λ _. ⌜ now (event .exit) ≡ cutInPlace first (now (rec .entry)) (now (flash .entry)) (now (filler .entry)) (not (eqb through 0)) (now (event .entry)) .reply ⌝ }
 {
-    number_for(record::cut(rec, flash, filler, through != 0, event))
+    number_for(services::cut(rec, flash, filler, through != 0, event))
 }
 
 // How long the next message is: 0, 6 (the event), 7 or 8.

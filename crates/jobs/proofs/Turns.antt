@@ -1,7 +1,6 @@
 -- What a head with a job says of its next store.
 -- Assumes nothing.
 use Prim.Native.Nat.{ℕ, _*_, _≤_}
-use mathlib.Core.Bool.{Bool}
 use mathlib.Core.Path.{_≡_}
 use mathlib.Core.List.{List}
 use native.Mathlib.Omega.{arith}
@@ -11,13 +10,14 @@ use Rattle.sectors.proofs.Laws.{reaches}
 use Rattle.plan.specs.declared.Store.{Store}
 use Rattle.plan.specs.declared.Store.the-variants.{Erase, Write, Record, Last}
 use Rattle.plan.specs.Safe.{Safe}
-use Rattle.plan.specs.Stores.{Progress, planOf, wants, onward, cutShort}
+use Rattle.plan.specs.Stores.{planOf}
 use Rattle.plan.proofs.Aims.{job-safe}
 use Rattle.plan.proofs.Due.{wants-is, Due, due}
 use Rattle.device.specs.declared.Head.{Head}
 use Rattle.device.specs.declared.Mode.the-variants.{Upgrade}
 use Rattle.soundness.specs.Sound.{planFor}
-use Rattle.jobs.specs.Jobs.{recordedIn, nextStore, turnAt, workTurn, cutTurn, Within, Doing}
+use Rattle.device.specs.Modes.{recordedIn}
+use Rattle.jobs.specs.Jobs.{nextStore, Within, Doing}
 
 -- the new stack lies below FUS
 pub stack-low : (S top : ℕ) (h : Head) (p size version recorded : ℕ) → Doing S top h → h .mode ≡ Upgrade p size version recorded → (sectorsFor S size ≤ top) × (top ≤ 65536)
@@ -33,13 +33,6 @@ module _ {S top : ℕ} {h : Head} (d : Doing S top h) where
   pub recorded-few : recordedIn (h .mode) ≤ 196608
   unfolding planOf
   recorded-few = omega (arith, d .low, d .able .room, d .able .under, d .range .count)
-
-  -- a turn is that of the next store
-  pub worked-as : (store : Store) (at : Progress) → store ≡ nextStore S top h → onward store (recordedIn (h .mode)) (h .made) ≡ at → turnAt S top h store at ≡ workTurn S top h
-  worked-as store at e f = rw (← f, e)
-
-  pub cut-as : (store : Store) (through : Bool) (at : Progress) → store ≡ nextStore S top h → cutShort store through (recordedIn (h .mode)) ≡ at → turnAt S top h store at ≡ cutTurn S top h through
-  cut-as store through at e f = rw (← f, e)
 
   -- the next store lies within the lent flash
   within-as : (N : ℕ) (F : List ℕ) → Safe S N (planFor S top h) → length F ≡ N * S → (store : Store) → Due (planFor S top h) (recordedIn (h .mode)) (h .made) store → Within S (length F) store

@@ -1,246 +1,184 @@
-// A job's store, whole or cut, as it changes the head. `size` is the size of a sector, `top` the first sector of FUS.
+// A job's store, whole or cut, as it changes the record: only the bytes that change are stored. `size` is the size of a sector, `top` the
+// first sector of FUS.
 pub mod stores;
 
-use device::Head;
 use device::Mode;
+use device::fields;
 use plan::Job;
 use plan::Store;
 ghost use mathlib.Core.Path.{_≡_};
-ghost use mathlib.Core.Bool.{true};
-ghost use Prim.Native.Nat.{_-_, _≤_};
-ghost use Rattle.basics.specs.Choice.{pick};
-ghost use Rattle.plan.specs.Stores as Progress;
-ghost use Rattle.soundness.specs.Sound.{jobOf};
-ghost use Rattle.jobs.specs.Jobs.{hasJob, recordedIn, withRecorded, withStack, committed, nextStore, turnAt, workTurn, cutTurn, Doing};
+ghost use mathlib.Core.Bool.{true, false};
+ghost use Prim.Native.Nat.{suc};
+ghost use lib.ListN.{length};
+ghost use Rattle.basics.specs.Words.{wordAt};
+ghost use Rattle.plan.specs.Stores as Stores;
+ghost use Rattle.device.specs.Modes.{recordedIn};
+ghost use Rattle.device.specs.Whole.{withHead};
+ghost use Rattle.device.specs.Layout.{recordLength, boundaryAt, isHead, modeIn, headIn, encode, decode};
+ghost use Rattle.device.specs.Fields.{Becomes};
+ghost use Rattle.soundness.specs.Sound.{jobOf, planFor};
+ghost use Rattle.jobs.specs.Jobs.{committed, nextStore};
+ghost use Rattle.jobs.specs.OnJob.{OnJob, Reaches, raised};
 
-// A store, whole or cut: the head after it, whether the job has ended, the store itself, and the stores still to do.
-pub struct Turn {
-    pub head: Head,
-    pub ended: bool,
-    pub store: Store,
-    pub left: usize,
-}
-
-pub fn has_job(mode: Mode) -> bool
-    ensures { λ r. ⌜ r ≡ hasJob mode ⌝ }
+// The job of a record.
+fn job_in(rec: &[u8]) -> Job
+    requires { ⌜ length (now rec) ≡ recordLength ⌝ }
+    requires { ⌜ isHead (now rec) ≡ true ⌝ }
+    ensures { λ r. ⌜ r ≡ jobOf (wordAt (now (rec .entry)) boundaryAt) (modeIn (now (rec .entry))) ⌝ }
 {
-    match mode {
-        Mode::Stack => false,
-        Mode::Idle => false,
-        Mode::Upgrade {
-            p: _,
-            size: _,
-            version: _,
-            recorded: _,
-        } => true,
-        Mode::Delete { recorded: _ } => true,
+    Job {
+        p: fields::image(rec) as usize,
+        size: fields::size(rec) as usize,
+        boundary: fields::boundary(rec) as usize,
     }
 }
 
-fn recorded_in(mode: Mode) -> u32
-    ensures { λ r. ⌜ r ≡ recordedIn mode ⌝ }
+// The next store of a record's job.
+pub fn next(rec: &[u8], size: usize, top: usize) -> Store
+    requires { ⌜ OnJob size top (now rec) ⌝ }
+    ensures { λ r. ⌜ r ≡ nextStore size top (headIn (now (rec .entry))) ⌝ }
 {
-    match mode {
-        Mode::Stack => 0,
-        Mode::Idle => 0,
-        Mode::Upgrade {
-            p: _,
-            size: _,
-            version: _,
-            recorded,
-        } => recorded,
-        Mode::Delete { recorded } => recorded,
-    }
+    let job = job_in(rec);
+    plan::next(
+        job,
+        size,
+        top,
+        fields::recorded(rec) as usize,
+        fields::made(rec),
+    )
 }
 
-fn with_recorded(mode: Mode, recorded: u32) -> Mode
-    ensures { λ r. ⌜ r ≡ withRecorded recorded mode ⌝ }
+// The stores still to do, after so many sectors are recorded and so many stores made in the next one.
+fn left(rec: &[u8], size: usize, top: usize, recorded: u32, made: u8) -> usize
+    requires { ⌜ OnJob size top (now rec) ⌝ }
+    ensures { λ r. ⌜ r ≡ Stores.left (planFor size top (headIn (now (rec .entry)))) recorded made ⌝ }
 {
-    match mode {
-        Mode::Stack => Mode::Stack,
-        Mode::Idle => Mode::Idle,
-        Mode::Upgrade {
-            p,
-            size,
-            version,
-            recorded: _,
-        } => Mode::Upgrade {
-            p,
-            size,
-            version,
-            recorded,
-        },
-        Mode::Delete { recorded: _ } => Mode::Delete { recorded },
-    }
+    plan::left(job_in(rec), size, top, recorded as usize, made)
 }
 
-fn job_of(boundary: u32, mode: Mode) -> Job
-    ensures { λ r. ⌜ r ≡ jobOf boundary mode ⌝ }
+// So many stores are made in the sector that is not recorded yet.
+fn put_made(rec: &mut [u8], size: usize, top: usize, made: u8)
+    requires { ⌜ OnJob size top (now rec) ⌝ }
+    ensures { λ _. ⌜ Reaches size top (now (rec .entry)) (now (rec .exit)) (Stores.going (recordedIn (headIn (now (rec .entry)) .mode)) made) ⌝ }
 {
-    let none = Job {
-        p: 0,
-        size: 0,
-        boundary: boundary as usize,
-    };
-    match mode {
-        Mode::Stack => none,
-        Mode::Idle => none,
-        Mode::Upgrade {
-            p,
-            size,
-            version: _,
-            recorded: _,
-        } => Job {
-            p: p as usize,
-            size: size as usize,
-            boundary: boundary as usize,
-        },
-        Mode::Delete { recorded: _ } => none,
-    }
+    fields::set_made(rec, made);
 }
 
-// The next store of a job.
-fn next_store(h: Head, size: usize, top: usize) -> Store
-    requires { ⌜ Doing size top h ⌝ }
-    ensures { λ r. ⌜ r ≡ nextStore size top h ⌝ }
+// So many sectors are recorded.
+fn put_recorded(rec: &mut [u8], size: usize, top: usize, recorded: u32)
+    requires { ⌜ OnJob size top (now rec) ⌝ }
+    ensures { λ _. ⌜ Reaches size top (now (rec .entry)) (now (rec .exit)) (Stores.going recorded 0) ⌝ }
 {
-    let mode = h.mode;
-    let job = job_of(h.boundary, mode);
-    plan::next(job, size, top, recorded_in(mode) as usize, h.made)
-}
-
-// The last store puts in the new stack, or takes the old one out.
-fn commit(h: Head, size: usize, top: usize) -> Head
-    requires { ⌜ Doing size top h ⌝ }
-    ensures { λ r. ⌜ r ≡ committed size top (h .mode) h ⌝ }
-{
-    let mode = h.mode;
-    match mode {
-        Mode::Stack => h,
-        Mode::Idle => h,
-        Mode::Upgrade {
-            p: _,
-            size: bytes,
-            version,
-            recorded: _,
-        } => installed(h, sectors::sectors_for(bytes, size), top, version),
-        Mode::Delete { recorded: _ } => Head {
-            present: false,
-            version: 0xFFFF_FFFF,
-            sectors: 0,
-            boundary: top as u32,
-            mode: Mode::Idle,
-            ..h
-        },
-    }
+    fields::set_recorded(rec, recorded);
+    fields::set_made(rec, 0);
 }
 
 // The floor after an upgrade.
-fn floor_after(h: Head, version: u32) -> u32
-    ensures { λ r. ⌜ r ≡ pick (h .rollback) version (h .floor) ⌝ }
+fn raise_floor(rec: &mut [u8], version: u32)
+    requires { ⌜ length (now rec) ≡ recordLength ⌝ }
+    ensures { λ _. ⌜ Becomes (now (rec .entry)) (now (rec .exit)) (raised version) ⌝ }
 {
-    if h.rollback {
-        return version;
-    }
-    h.floor
-}
-
-// The new stack of so many sectors.
-fn installed(h: Head, sectors: usize, top: usize, version: u32) -> Head
-    requires { ⌜ (sectors ≤ top) × (top ≤ 65536) ⌝ }
-    ensures { λ r. ⌜ r ≡ withStack true version sectors (top - sectors) (pick (h .rollback) version (h .floor)) Mode.Stack h ⌝ }
-{
-    let floor = floor_after(h, version);
-    Head {
-        present: true,
-        version,
-        sectors: sectors as u32,
-        boundary: (top - sectors) as u32,
-        mode: Mode::Stack,
-        floor,
-        ..h
+    if fields::rollback(rec) {
+        fields::set_floor(rec, version);
     }
 }
 
-// So many sectors are recorded, and so many stores made in the next one.
-fn going(h: Head, size: usize, top: usize, store: Store, recorded: u32, made: u8) -> Turn
-    requires { ⌜ Doing size top h ⌝ }
-    ensures { λ r. ⌜ r ≡ turnAt size top h store (Progress.going recorded made) ⌝ }
+// The last store puts in the new stack, or takes the old one out.
+fn commit(rec: &mut [u8], size: usize, top: usize)
+    requires { ⌜ OnJob size top (now rec) ⌝ }
+    ensures { λ _. ⌜ now (rec .exit) ≡ encode (withHead (committed size top (headIn (now (rec .entry)) .mode) (headIn (now (rec .entry)))) (decode (now (rec .entry)))) ⌝ }
 {
-    let mode = h.mode;
-    let job = job_of(h.boundary, mode);
-    Turn {
-        head: Head {
-            mode: with_recorded(mode, recorded),
-            made,
-            ..h
-        },
-        ended: false,
-        store,
-        left: plan::left(job, size, top, recorded as usize, made),
+    if fields::tag(rec) == 2 {
+        let version = fields::image_version(rec);
+        let sectors = sectors::sectors_for(fields::size(rec), size);
+        raise_floor(rec, version);
+        fields::set_stack(rec, true, version, sectors as u32, (top - sectors) as u32);
+        fields::set_mode(rec, Mode::Stack);
+        return;
     }
+    fields::set_stack(rec, false, 0xFFFF_FFFF, 0, top as u32);
+    fields::set_mode(rec, Mode::Idle);
 }
 
-// The job has ended.
-fn ending(h: Head, size: usize, top: usize, store: Store) -> Turn
-    requires { ⌜ Doing size top h ⌝ }
-    ensures { λ r. ⌜ r ≡ turnAt size top h store Progress.ended ⌝ }
+// The job has ended, and what is lost is lost.
+fn finish(rec: &mut [u8], size: usize, top: usize)
+    requires { ⌜ OnJob size top (now rec) ⌝ }
+    ensures { λ _. ⌜ Reaches size top (now (rec .entry)) (now (rec .exit)) Stores.ended ⌝ }
 {
-    let next = commit(h, size, top);
-    Turn {
-        head: next.lost(),
-        ended: true,
-        store,
-        left: 0,
-    }
+    commit(rec, size, top);
+    fields::lose(rec);
 }
 
-// The next store, made.
-pub fn work_turn(h: Head, size: usize, top: usize) -> Turn
-    requires { ⌜ Doing size top h ⌝ }
-    ensures { λ r. ⌜ r ≡ workTurn size top h ⌝ }
+// A sector store is made: the stores still to do after it.
+fn store_made(rec: &mut [u8], size: usize, top: usize) -> usize
+    requires { ⌜ OnJob size top (now rec) ⌝ }
+    ensures { λ _. ⌜ Reaches size top (now (rec .entry)) (now (rec .exit)) (Stores.going (recordedIn (headIn (now (rec .entry)) .mode)) (suc (headIn (now (rec .entry)) .made))) ⌝ }
+    ensures { λ r. ⌜ r ≡ Stores.left (planFor size top (headIn (now (rec .entry)))) (recordedIn (headIn (now (rec .entry)) .mode)) (suc (headIn (now (rec .entry)) .made)) ⌝ }
 {
-    let store = next_store(h, size, top);
-    let mode = h.mode;
-    let recorded = recorded_in(mode);
+    let made = fields::made(rec) + 1;
+    let left = left(rec, size, top, fields::recorded(rec), made);
+    put_made(rec, size, top, made);
+    left
+}
+
+// A sector is recorded: the stores still to do after it.
+fn sector_recorded(rec: &mut [u8], size: usize, top: usize) -> usize
+    requires { ⌜ OnJob size top (now rec) ⌝ }
+    ensures { λ _. ⌜ Reaches size top (now (rec .entry)) (now (rec .exit)) (Stores.going (suc (recordedIn (headIn (now (rec .entry)) .mode))) 0) ⌝ }
+    ensures { λ r. ⌜ r ≡ Stores.left (planFor size top (headIn (now (rec .entry)))) (suc (recordedIn (headIn (now (rec .entry)) .mode))) 0 ⌝ }
+{
+    let recorded = fields::recorded(rec) + 1;
+    let left = left(rec, size, top, recorded, 0);
+    put_recorded(rec, size, top, recorded);
+    left
+}
+
+// The record after a store: the stores still to do after it.
+pub fn advance(rec: &mut [u8], size: usize, top: usize, store: Store) -> usize
+    requires { ⌜ OnJob size top (now rec) ⌝ }
+    ensures { λ _. ⌜ Reaches size top (now (rec .entry)) (now (rec .exit)) (Stores.onward store (recordedIn (headIn (now (rec .entry)) .mode)) (headIn (now (rec .entry)) .made)) ⌝ }
+    ensures { λ r. ⌜ r ≡ Stores.leftAt (planFor size top (headIn (now (rec .entry)))) (Stores.onward store (recordedIn (headIn (now (rec .entry)) .mode)) (headIn (now (rec .entry)) .made)) ⌝ }
+{
     match store {
-        Store::Erase { target: _ } => going(h, size, top, store, recorded, h.made + 1),
+        Store::Erase { target: _ } => store_made(rec, size, top),
         Store::Write {
             target: _,
             source: _,
             count: _,
-        } => going(h, size, top, store, recorded, h.made + 1),
-        Store::Record => going(h, size, top, store, recorded + 1, 0),
-        Store::Last => ending(h, size, top, store),
+        } => store_made(rec, size, top),
+        Store::Record => sector_recorded(rec, size, top),
+        Store::Last => {
+            finish(rec, size, top);
+            0
+        }
     }
 }
 
-// The next store, cut.
-pub fn cut_turn(h: Head, size: usize, top: usize, through: bool) -> Turn
-    requires { ⌜ Doing size top h ⌝ }
-    ensures { λ r. ⌜ r ≡ cutTurn size top h through ⌝ }
+// The record after a store that was cut.
+pub fn break_off(rec: &mut [u8], size: usize, top: usize, store: Store, through: bool)
+    requires { ⌜ OnJob size top (now rec) ⌝ }
+    ensures { λ _. ⌜ Reaches size top (now (rec .entry)) (now (rec .exit)) (Stores.cutShort store through (recordedIn (headIn (now (rec .entry)) .mode))) ⌝ }
 {
-    let store = next_store(h, size, top);
-    let mode = h.mode;
-    let recorded = recorded_in(mode);
     match store {
-        Store::Erase { target: _ } => going(h, size, top, store, recorded, 0),
+        Store::Erase { target: _ } => put_made(rec, size, top, 0),
         Store::Write {
             target: _,
             source: _,
             count: _,
-        } => going(h, size, top, store, recorded, 0),
+        } => put_made(rec, size, top, 0),
         Store::Record => {
             if through {
-                return going(h, size, top, store, recorded + 1, 0);
+                put_recorded(rec, size, top, fields::recorded(rec) + 1);
+            } else {
+                put_made(rec, size, top, 0);
             }
-            going(h, size, top, store, recorded, 0)
         }
         Store::Last => {
             if through {
-                return ending(h, size, top, store);
+                finish(rec, size, top);
+            } else {
+                put_made(rec, size, top, 0);
             }
-            going(h, size, top, store, recorded, 0)
         }
     }
 }

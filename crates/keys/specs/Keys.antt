@@ -6,9 +6,7 @@ use Rattle.basics.specs.Choice.{pick}
 use Rattle.answer.specs.declared.Failure.the-variants.{BadType, BadSize, SecondMaster, StoreFull, NotStored, KeyLocked, NoMaster, NotLoaded}
 use Rattle.answer.specs.declared.Answer.the-variants.{Stored, Accepted}
 use Rattle.device.specs.declared.Head.{Head}
-use Rattle.device.specs.declared.Step.{Step}
-use Rattle.device.specs.declared.Look.{Look}
-use Rattle.device.specs.declared.Effect.the-variants.{Keep, Lock, Put}
+use Rattle.device.specs.Types.{Step, Look, Keep, Lock, Put}
 use Rattle.device.specs.Heads.{withLoaded, withCount}
 use Rattle.device.specs.Steps.{failed, accepted}
 

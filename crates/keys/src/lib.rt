@@ -1,11 +1,12 @@
-// The user keys: STORE, LOAD, LOCK and UNLOAD, decided on the head and what was looked up.
+// The user keys: STORE, LOAD, LOCK and UNLOAD on the record's bytes, with what each is answered.
 use answer::Answer;
 use answer::Failure;
-use device::Effect;
-use device::Head;
-use device::Look;
-use device::Step;
+use device::fields;
 ghost use mathlib.Core.Path.{_≡_};
+ghost use lib.ListN.{length};
+ghost use Rattle.device.specs.Layout.{recordLength, headIn};
+ghost use Rattle.device.specs.Fields.{Held, lookIn};
+ghost use Rattle.device.specs.Done.{done, stepped, Steps};
 ghost use Rattle.keys.specs.Keys.{typeLawful, keyLawful, storeKey, storedKey, loadKey, lockKey, unloadKey};
 
 fn type_lawful(kind: u8) -> bool
@@ -23,79 +24,84 @@ pub fn key_lawful(kind: u8, size: usize) -> bool
 }
 
 // The master goes to index 0, the others to 1 to 100 in the order of storing.
-pub fn store_key(h: Head, look: Look, kind: u8, size: usize) -> Step
-    ensures { λ r. ⌜ r ≡ storeKey h look kind size ⌝ }
+pub fn store_key(rec: &mut [u8], kind: u8, key: &[u8]) -> Answer
+    requires { ⌜ Held (now rec) ⌝ }
+    ensures { λ r. ⌜ done r (now (rec .exit)) ≡ stepped (storeKey (headIn (now (rec .entry))) (lookIn (now (rec .entry)) kind) kind (length (now (key .entry)))) (now (key .entry)) (now (rec .entry)) ⌝ }
 {
     if !type_lawful(kind) {
-        return Step::failed(h, Failure::BadType);
+        return commands::failed(rec, Failure::BadType);
     }
-    if !key_lawful(kind, size) {
-        return Step::failed(h, Failure::BadSize);
+    if !key_lawful(kind, key.len()) {
+        return commands::failed(rec, Failure::BadSize);
     }
     if kind == 2 {
-        if look.master == 2 {
-            return Step::failed(h, Failure::SecondMaster);
+        if fields::kind(rec, 0) == 2 {
+            return commands::failed(rec, Failure::SecondMaster);
         }
-        return Step::accepted(
-            h,
-            Answer::Stored { index: 0 },
-            Effect::Put { slot: 0, kind },
-        );
+        fields::set_key(rec, 0, kind, key);
+        fields::set_error(rec, 0);
+        return Answer::Stored { index: 0 };
     }
-    let count = h.count;
+    let count = fields::count(rec);
     if 100 <= count {
-        return Step::failed(h, Failure::StoreFull);
+        return commands::failed(rec, Failure::StoreFull);
     }
     let index = count + 1;
-    let next = Head { count: index, ..h };
-    Step::accepted(
-        next,
-        Answer::Stored { index },
-        Effect::Put { slot: index, kind },
-    )
+    fields::set_key(rec, index, kind, key);
+    fields::set_count(rec, index);
+    fields::set_error(rec, 0);
+    Answer::Stored { index }
 }
 
 // Is the index that of a stored user key?
-fn stored(h: Head, index: u8) -> bool
-    ensures { λ r. ⌜ r ≡ storedKey h index ⌝ }
+fn stored(rec: &[u8], index: u8) -> bool
+    requires { ⌜ length (now rec) ≡ recordLength ⌝ }
+    ensures { λ r. ⌜ r ≡ storedKey (headIn (now (rec .entry))) index ⌝ }
 {
-    (1 <= index) & (index <= h.count)
+    (1 <= index) & (index <= fields::count(rec))
 }
 
 // The key replaces any that is loaded.
-pub fn load_key(h: Head, look: Look, index: u8) -> Step
-    ensures { λ r. ⌜ r ≡ loadKey h look index ⌝ }
+pub fn load_key(rec: &mut [u8], index: u8) -> Answer
+    requires { ⌜ Held (now rec) ⌝ }
+    ensures { λ r. ⌜ Steps (now (rec .entry)) (now (rec .exit)) r (loadKey (headIn (now (rec .entry))) (lookIn (now (rec .entry)) index) index) ⌝ }
 {
-    if !stored(h, index) {
-        return Step::failed(h, Failure::NotStored);
+    if !stored(rec, index) {
+        return commands::failed(rec, Failure::NotStored);
     }
-    if look.lock != 0 {
-        return Step::failed(h, Failure::KeyLocked);
+    if fields::lock(rec, index) != 0 {
+        return commands::failed(rec, Failure::KeyLocked);
     }
-    if (look.kind != 3) | (look.master == 2) {
-        let next = Head { loaded: index, ..h };
-        return Step::accepted(next, Answer::Accepted, Effect::Keep);
+    if (fields::kind(rec, index) != 3) | (fields::kind(rec, 0) == 2) {
+        fields::set_loaded(rec, index);
+        fields::set_error(rec, 0);
+        return Answer::Accepted;
     }
-    Step::failed(h, Failure::NoMaster)
+    commands::failed(rec, Failure::NoMaster)
 }
 
 // A loaded key stays loaded.
-pub fn lock_key(h: Head, index: u8) -> Step
-    ensures { λ r. ⌜ r ≡ lockKey h index ⌝ }
+pub fn lock_key(rec: &mut [u8], index: u8) -> Answer
+    requires { ⌜ Held (now rec) ⌝ }
+    ensures { λ r. ⌜ Steps (now (rec .entry)) (now (rec .exit)) r (lockKey (headIn (now (rec .entry))) index) ⌝ }
 {
-    if stored(h, index) {
-        return Step::accepted(h, Answer::Accepted, Effect::Lock { slot: index });
+    if stored(rec, index) {
+        fields::set_lock(rec, index);
+        fields::set_error(rec, 0);
+        return Answer::Accepted;
     }
-    Step::failed(h, Failure::NotStored)
+    commands::failed(rec, Failure::NotStored)
 }
 
 // With no key loaded there is nothing to unload, not at 0 either.
-pub fn unload_key(h: Head, index: u8) -> Step
-    ensures { λ r. ⌜ r ≡ unloadKey h index ⌝ }
+pub fn unload_key(rec: &mut [u8], index: u8) -> Answer
+    requires { ⌜ Held (now rec) ⌝ }
+    ensures { λ r. ⌜ Steps (now (rec .entry)) (now (rec .exit)) r (unloadKey (headIn (now (rec .entry))) index) ⌝ }
 {
-    if (1 <= index) & (index == h.loaded) {
-        let next = Head { loaded: 0, ..h };
-        return Step::accepted(next, Answer::Accepted, Effect::Keep);
+    if (1 <= index) & (index == fields::loaded(rec)) {
+        fields::set_loaded(rec, 0);
+        fields::set_error(rec, 0);
+        return Answer::Accepted;
     }
-    Step::failed(h, Failure::NotLoaded)
+    commands::failed(rec, Failure::NotLoaded)
 }

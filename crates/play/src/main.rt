@@ -38,13 +38,12 @@ fn cut(rec: &mut [u8], flash: &mut [u8], filler: u8, through: bool) {
 // length.)
 fn work(rec: &mut [u8], flash: &mut [u8], stores: usize) {
     let mut made = 0;
-    let mut left = state::has_job(rec) as usize;
+    let mut left = state::has_job(rec) as u32;
     while made < stores && 0 < left {
-        let done = record::work(rec, flash);
-        left = done.left;
+        record::work(rec, flash, &mut left);
         made += 1;
     }
-    say::made(made, left);
+    say::made(made, left as usize);
 }
 
 // The device and the flash as at the start.

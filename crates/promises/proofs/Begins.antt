@@ -13,7 +13,6 @@ use Rattle.basics.specs.Choice.{pick, and-right}
 use Rattle.basics.specs.Words.{byteAt}
 use Rattle.sectors.proofs.Laws.{stored-length, length-erased}
 use Rattle.packet.specs.declared.Refusal.{Refusal}
-use Rattle.packet.specs.declared.Refusal.the-variants.{UnsoundRecord, FlashLength, ReplyShort}
 use Rattle.packet.specs.declared.Command.{Command}
 use Rattle.packet.specs.declared.Command.the-variants.{GetState, FwUpgrade, FwDelete, UpdateAuthKey, LockAuthKey, StoreUsrKey, LoadUsrKey, StartWs, LockUsrKey, UnloadUsrKey, ActivateAntirollback}
 use Rattle.packet.specs.declared.Reading.{Reading}
@@ -23,11 +22,7 @@ use Rattle.answer.specs.declared.Checked.{Checked}
 use Rattle.answer.specs.declared.Checked.the-variants.{Good, Fails, Erases}
 use Rattle.image.specs.Images.{flashAfter, Erasable}
 use Rattle.device.specs.declared.Head.{Head}
-use Rattle.device.specs.declared.Step.{Step}
-use Rattle.device.specs.declared.Look.{Look}
-use Rattle.device.specs.declared.Effect.{Effect}
-use Rattle.device.specs.declared.Effect.the-variants.{Keep, Drop, Lock, Put, Auth}
-use Rattle.device.specs.declared.Device.{Device}
+use Rattle.device.specs.Types.{Step, Look, Effect, Keep, Drop, Lock, Put, Auth, Device}
 use Rattle.device.specs.declared.Mode.{Mode}
 use Rattle.device.specs.declared.Mode.the-variants.{Stack, Idle, Upgrade, Delete}
 use Rattle.keys.specs.Keys.{typeLawful, keyLawful, storedKey, storeKey, loadKey}
@@ -37,12 +32,12 @@ use Rattle.device.specs.Whole.{Shaped, look, withHead, apply, carried}
 use Rattle.soundness.specs.Sound.{modeSound, sound}
 use Rattle.soundness.proofs.Parts.{parts}
 use Rattle.services.specs.declared.Numbers.{Numbers}
-use Rattle.jobs.specs.Jobs.{hasJob, recordedIn}
-use Rattle.services.specs.Calls.{Result, Sensible, refused, lent, checkedFor, keyIn, stepFor, byReading, handled}
+use Rattle.device.specs.Modes.{hasJob, recordedIn}
+use Rattle.services.specs.Calls.{HandleResult, gated, lent, Sensible, handleRefused, checkedFor, keyIn, stepFor, byReading, handled}
 use Rattle.services.proofs.Laws.{boundary-low, erasable}
 use Rattle.promises.specs.Demand.{packet, Accepted}
 use Rattle.promises.proofs.Under.{never}
-use Rattle.promises.proofs.Still.{either}
+use Rattle.promises.proofs.Still.{either, by-verdict}
 use Rattle.promises.proofs.Kept.{kept}
 
 -- the checks keep the flash's length
@@ -127,11 +122,11 @@ module _ (k : Numbers) (kind : Sensible k) (d : Device) (F : List ℕ) (s : soun
       go (Upgrade p size version recorded) q m = absurd (never (sym q))
       go (Delete recorded) q m = absurd (never (sym q))
 
-  abbrev Beginning : Result → Type 0
+  abbrev Beginning : HandleResult → Type 0
   Beginning r = hasJob (r .device .head .mode) ≡ true → (recordedIn (r .device .head .mode) ≡ 0) × (r .device .head .made ≡ 0) × (length (r .flash) ≡ k .count * k .size)
 
-  given-back : (q : Refusal) (R : List ℕ) → Beginning (refused q d F R)
-  given-back q R j = absurd (never (sym quiet ∙ j))
+  given-back : (R : List ℕ) (q : Refusal) → Beginning (handleRefused d F R q)
+  given-back R q j = absurd (never (sym quiet ∙ j))
 
   read-begins : (bytes R : List ℕ) (r : Reading) → Beginning (byReading r k d F bytes R)
   read-begins bytes R (Lawful command n) j =
@@ -140,16 +135,11 @@ module _ (k : Numbers) (kind : Sensible k) (d : Device) (F : List ℕ) (s : soun
       let q : carried t (keyIn command bytes) d .head ≡ t .head = head-of (t .effect) (keyIn command bytes) (t .head) d in
       let b = begun-decided (d .head) quiet (look (d .kinds) (d .locks) (byteAt bytes 4)) c command (byteAt bytes 4) (length (keyIn command bytes)) (ap (λ (h : Head). hasJob (h .mode)) (sym q) ∙ j) in
       (ap (λ (h : Head). recordedIn (h .mode)) q ∙ b .0, ap (λ (h : Head). h .made) q ∙ b .1 ∙ unmade, after-length (k .size) c F (erasable k (d .head) command (d .key) F kind (boundary-low (k .size) (k .top) d s) e) ∙ e)
-  read-begins bytes R (Refused q) j = given-back q R j
+  read-begins bytes R (Refused q) j = given-back R q j
 
   handled-begins : (bytes R : List ℕ) → Beginning (handled k d F bytes R)
   unfolding handled
-  handled-begins bytes R =
-      either Beginning (sound (k .size) (k .top) d) _ _
-      (either Beginning (lent k F) _ _
-      (either Beginning (leb 8 (length R)) _ _ (read-begins bytes R (readOf bytes)) (given-back ReplyShort R))
-      (given-back FlashLength R))
-      (given-back UnsoundRecord R)
+  handled-begins bytes R = by-verdict Beginning (gated (sound (k .size) (k .top) d) (lent k F) (leb 8 (length R)) true) (byReading (readOf bytes) k d F bytes R) (handleRefused d F R) (read-begins bytes R (readOf bytes)) (given-back R)
 
   -- a packet after which a job is under way has accepted that job: demand 3 holds from there
   pub accepted-by : (bytes R : List ℕ) → hasJob (handled k d F bytes R .device .head .mode) ≡ true

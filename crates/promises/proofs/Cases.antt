@@ -13,9 +13,9 @@ use Rattle.keys.specs.Keys.{storeKey}
 use Rattle.commands.specs.Commands.{stackRunning}
 use Rattle.decisions.specs.Decisions.{decided}
 use Rattle.soundness.specs.Sound.{headSound, allBelow, slotsSound, sound}
-use Rattle.services.specs.Calls.{restarted}
+use Rattle.services.specs.Calls.{gated, restarted}
 use Rattle.promises.specs.Cases.{every, table, holds, talked, stacked}
 
 pub every-case : (F : List ℕ) → T (every F table)
-unfolding every table holds talked stacked sound headSound slotsSound allBelow freshDevice zeros readOf commandOf pick replied response event decided stackRunning storeKey cleared those restarted
+unfolding every table holds talked stacked sound headSound slotsSound allBelow freshDevice zeros readOf commandOf pick replied response event decided stackRunning storeKey cleared those restarted gated
 every-case F = tt

@@ -19,15 +19,16 @@ use Rattle.plan.proofs.Done.{job-done}
 use Rattle.plan.proofs.Counting.{left-less, left-some, left-most}
 use Rattle.plan.proofs.Invariant.{Inv, Good, started, work-good, cut-good, restart-good}
 use Rattle.device.specs.declared.Head.{Head}
-use Rattle.device.specs.declared.Device.{Device}
+use Rattle.device.specs.Types.{Device}
 use Rattle.device.specs.declared.Mode.{Mode}
 use Rattle.device.specs.declared.Mode.the-variants.{Stack, Idle, Upgrade, Delete}
 use Rattle.device.specs.Whole.{lost}
 use Rattle.soundness.specs.Sound.{planFor, sound}
 use Rattle.soundness.proofs.Keeps.{lost-sound}
 use Rattle.services.specs.declared.Numbers.{Numbers}
-use Rattle.jobs.specs.Jobs.{hasJob, recordedIn, withRecorded, committed, progressed, finished, nextStore, Doing}
-use Rattle.services.specs.Calls.{WorkResult, Sensible, restarted, worked, cutOff}
+use Rattle.device.specs.Modes.{hasJob, recordedIn, withRecorded}
+use Rattle.jobs.specs.Jobs.{committed, progressed, finished, nextStore, Doing}
+use Rattle.services.specs.Calls.{WorkResult, Sensible, gated, restarted, worked, cutOff}
 use Rattle.services.proofs.Doings.{doing}
 use Rattle.services.proofs.Laws.{cut-busy}
 use Rattle.promises.specs.Demand.{Event, packet, restart, work, cut, State, called, busy, ran, worksIn, NoCut, stores, toDo, Accepted, final, Safely, under, over}
@@ -166,15 +167,15 @@ module _ (k : Numbers) (kind : Sensible k) (d₀ : Device) (F₀ : List ℕ) (ac
         (by-store (λ y. (cutShort y through (recordedIn (D .head .mode)), spoilt S y x F)) (λ to G. Reached (lost (progressed S top D to), G)) (arrive-lost _ _ g))
 
     restart-reached : (R : List ℕ) (t : Bool) → leb 6 (length R) ≡ t → Reached (called k (restart R) (at e n m, F))
-    unfolding restarted pick at
+    unfolding restarted gated pick at
     restart-reached R true h = rw (at-sound, h) (midway (origin-lost o) n 0 F (restart-good i))
     restart-reached R false h = rw (at-sound, h) (midway o n m F i)
 
     -- a cut that is refused
     cut-still : (x : List ℕ) (through : Bool) (R : List ℕ) (t u : Bool) → leb 6 (length R) ≡ t → eqb (length x) S ≡ u → Reached (called k (cut x through R) (at e n m, F))
     cut-still x through R true true h f = cut-reached x through R (leb-true _ _ h) (eqb-true _ _ f)
-    cut-still x through R true false h f = unfold cutOff pick at in rw (at-sound, eq-eqb _ _ (i .len), h, f) (midway o n m F i)
-    cut-still x through R false u h f = unfold cutOff pick at in rw (at-sound, eq-eqb _ _ (i .len), h) (midway o n m F i)
+    cut-still x through R true false h f = unfold cutOff gated pick at in rw (at-sound, eq-eqb _ _ (i .len), h, f) (midway o n m F i)
+    cut-still x through R false u h f = unfold cutOff gated pick at in rw (at-sound, eq-eqb _ _ (i .len), h) (midway o n m F i)
 
     packet-reached : (s R : List ℕ) → Reached (called k (packet s R) (at e n m, F))
     packet-reached s R =

@@ -1,5 +1,6 @@
 -- SOUNDNESS IS KEPT: fresh is sound, and every call leaves a sound record from a sound one.
 -- Assumes nothing.
+use lib.ListN.{length}
 use Prim.Native.Nat.{ℕ, _+_, _-_, _≤_, _<_}
 use mathlib.Core.Bool.{Bool, true, false, _&&_, _||_}
 use mathlib.Core.Path.{_≡_, refl}
@@ -8,7 +9,6 @@ use native.Mathlib.Decide.{decLt}
 use native.Mathlib.Omega.{arith}
 use borrow.Author.Tests.{leb-true, le-leb, eq-eqb, ne-eqb}
 use lib.Dec.{leb, eqb}
-use lib.ListN.{length}
 use Rattle.basics.specs.Choice.{pick, and-left, and-right}
 use Rattle.basics.specs.Words.{byteAt, zeros}
 use Rattle.sectors.specs.Sectors.{sectorsFor}
@@ -25,24 +25,26 @@ use Rattle.plan.specs.Stores.{Plan, Progress, going, ended, planOf, steps, want
 use Rattle.plan.proofs.Done.{blocks-hold}
 use Rattle.plan.proofs.Due.{wants-is, Due, due}
 use Rattle.device.specs.declared.Head.{Head}
-use Rattle.device.specs.declared.Device.{Device}
+use Rattle.device.specs.Types.{Device}
 use Rattle.device.specs.declared.Mode.{Mode}
 use Rattle.device.specs.declared.Mode.the-variants.{Stack, Idle, Upgrade, Delete}
 use Rattle.device.specs.Heads.{lostHead}
-use Rattle.decisions.specs.Decisions.{isIdle, searches}
+use Rattle.device.specs.Modes.{isIdle, hasJob, recordedIn}
+use Rattle.decisions.specs.Decisions.{searches}
 use Rattle.device.specs.Whole.{Shaped, lost}
 use Rattle.soundness.specs.Sound.{jobOf, planFor, errorSound, progressSound, modeSound, CheckedLawful, sound}
 use Rattle.soundness.proofs.Parts.{Numbers as HeadSays, Keys, Parts, parts, whole}
 use Rattle.soundness.proofs.Keys.{keys-lost}
 use Rattle.soundness.proofs.Keeps.{lost-sound, decided-sound}
 use Rattle.services.specs.declared.Numbers.{Numbers}
-use Rattle.jobs.specs.Jobs.{hasJob, recordedIn, committed, progressed, finished, nextStore, Doing}
-use Rattle.services.specs.Calls.{Result, RestartResult, WorkResult, Sensible, termsOf, lent, checkedFor, keyIn, byReading, handled, restarted, worked, cutOff}
+use Rattle.jobs.specs.Jobs.{committed, progressed, finished, nextStore, Doing}
+use Rattle.services.specs.declared.Verdict.the-variants.{Taken}
+use Rattle.services.specs.Calls.{HandleResult, handleRefused, CutResult, RestartResult, WorkResult, Sensible, termsOf, checkedFor, keyIn, byReading, handled, restarted, worked, cutOff, gated, lent, restartResult, restartRefused, eventFor, working, workRefused, workedOn, workResult, cutting, cutRefused, cutIn, restarting}
 use Rattle.services.proofs.Laws.{boundary-some, boundary-low}
 use Rattle.services.proofs.Doings.{doing}
 use Rattle.promises.specs.Demand.{Event, packet, restart, work, cut, called}
 use Rattle.promises.proofs.Under.{never, sound-progressed}
-use Rattle.promises.proofs.Still.{either}
+use Rattle.promises.proofs.Still.{either, by-verdict}
 
 -- a point of a job that a sound record can be at
 Bounded : Plan → Progress → Type 0
@@ -166,7 +168,7 @@ module _ (k : Numbers) (kind : Sensible k) (d : Device) (s : sound (k .size) (k 
   lawful-of boundary (Erases failure p) t = tt
 
   module _ (F : List ℕ) (shaped : Shaped d) where
-    abbrev Kept : Result → Type 0
+    abbrev Kept : HandleResult → Type 0
     Kept r = sound S top (r .device) ≡ true
 
     read-kept : (bytes R : List ℕ) (r : Reading) → Kept (byReading r k d F bytes R)
@@ -179,15 +181,11 @@ module _ (k : Numbers) (kind : Sensible k) (d : Device) (s : sound (k .size) (k 
 
     handled-kept : (bytes R : List ℕ) → Kept (handled k d F bytes R)
     unfolding handled
-    handled-kept bytes R =
-        either Kept (sound S top d) _ _
-        (either Kept (lent k F) _ _ (either Kept (leb 8 (length R)) _ _ (read-kept bytes R (readOf bytes)) s) s) s
+    handled-kept bytes R = by-verdict Kept (gated (sound (k .size) (k .top) d) (lent k F) (leb 8 (length R)) true) (byReading (readOf bytes) k d F bytes R) (handleRefused d F R) (read-kept bytes R (readOf bytes)) (λ r. s)
 
     restarted-kept : (R : List ℕ) → sound S top (restarted k d R .device) ≡ true
     unfolding restarted
-    restarted-kept R =
-        let Q : RestartResult → Type 0 = λ r. sound S top (r .device) ≡ true in
-        either Q (sound S top d) _ _ (either Q (leb 6 (length R)) _ _ (lost-sound S top d s) s) s
+    restarted-kept R = by-verdict (λ (x : RestartResult). sound S top (x .device) ≡ true) (gated (sound S top d) true (leb 6 (length R)) true) (restartResult Taken (lost d) (eventFor d (length R))) (restartRefused d R) (lost-sound S top d s) (λ r. s)
 
     by-job : {A : Type 0} (Q : A → Type 0) (x y : A) → (hasJob (d .head .mode) ≡ true → Q x) → Q y → Q (pick (hasJob (d .head .mode)) x y)
     unfolding pick
@@ -200,16 +198,15 @@ module _ (k : Numbers) (kind : Sensible k) (d : Device) (s : sound (k .size) (k 
     worked-kept : sound S top (worked k d F .device) ≡ true
     unfolding worked
     worked-kept =
-        let Q : WorkResult → Type 0 = λ r. sound S top (r .device) ≡ true in
-        either Q (sound S top d) _ _ (either Q (lent k F) _ _ (by-job Q _ _ worked-sound s) s) s
+        let Q : WorkResult → Type 0 = λ x. sound S top (x .device) ≡ true in
+        by-verdict Q (gated (sound S top d) (lent k F) true true) (working k d F) (workRefused d F) (by-job Q (workedOn k d F) (workResult Taken d F 0) worked-sound s) (λ r. s)
 
-    cut-kept : (x : List ℕ) (through : Bool) (R : List ℕ) → Kept (cutOff k d F x through R)
+    cut-kept : (x : List ℕ) (through : Bool) (R : List ℕ) → sound S top (cutOff k d F x through R .device) ≡ true
     unfolding cutOff
     cut-kept x through R =
-        either Kept (sound S top d) _ _
-        (either Kept (lent k F) _ _
-        (either Kept (leb 6 (length R)) _ _
-        (either Kept (eqb (length x) S) _ _ (by-job Kept _ _ (λ j. cut-sound j through) (lost-sound S top d s)) s) s) s) s
+        let Q : CutResult → Type 0 = λ y. sound S top (y .device) ≡ true in
+        by-verdict Q (gated (sound S top d) (lent k F) (leb 6 (length R)) (eqb (length x) S)) (cutting k d F x through R) (cutRefused d F R)
+        (by-job Q (cutIn k d F x through R) (restarting d F R) (λ j. cut-sound j through) (lost-sound S top d s)) (λ r. s)
 
     -- every call, with any arguments, leaves a sound record from a sound one (whose arrays have their lengths, as the code's types say)
     pub kept : (v : Event) → sound S top (called k v (d, F) .0) ≡ true

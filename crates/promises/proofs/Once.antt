@@ -12,9 +12,9 @@ use Rattle.packet.specs.declared.Reading.{Reading}
 use Rattle.packet.specs.Packets.{readOf}
 use Rattle.reply.specs.Replies.{replied}
 use Rattle.reply.specs.Message.{nextMessage}
-use Rattle.device.specs.declared.Device.{Device}
+use Rattle.device.specs.Types.{Device}
 use Rattle.services.specs.declared.Numbers.{Numbers}
-use Rattle.services.specs.Calls.{Result, RestartResult, WorkResult, handled, restarted, worked, cutOff}
+use Rattle.services.specs.Calls.{HandleResult, CutResult, RestartResult, WorkResult, handled, restarted, worked, cutOff}
 
 pub read-once : (s : List ℕ) (x y : Reading) → x ≡ readOf s → y ≡ readOf s → x ≡ y
 read-once s x y p q = p ∙ sym q
@@ -23,7 +23,7 @@ pub message-once : (event response x y : List ℕ) → x ≡ nextMessage event r
 message-once event response x y p q = p ∙ sym q
 
 module _ (k : Numbers) (d : Device) where
-  pub handle-once : (F packet R : List ℕ) (x y : Result) → x ≡ handled k d F packet R → y ≡ handled k d F packet R → x ≡ y
+  pub handle-once : (F packet R : List ℕ) (x y : HandleResult) → x ≡ handled k d F packet R → y ≡ handled k d F packet R → x ≡ y
   handle-once F packet R x y p q = p ∙ sym q
 
   pub restart-once : (R : List ℕ) (x y : RestartResult) → x ≡ restarted k d R → y ≡ restarted k d R → x ≡ y
@@ -32,7 +32,7 @@ module _ (k : Numbers) (d : Device) where
   pub work-once : (F : List ℕ) (x y : WorkResult) → x ≡ worked k d F → y ≡ worked k d F → x ≡ y
   work-once F x y p q = p ∙ sym q
 
-  pub cut-once : (F filler : List ℕ) (through : Bool) (R : List ℕ) (x y : Result) → x ≡ cutOff k d F filler through R → y ≡ cutOff k d F filler through R → x ≡ y
+  pub cut-once : (F filler : List ℕ) (through : Bool) (R : List ℕ) (x y : CutResult) → x ≡ cutOff k d F filler through R → y ≡ cutOff k d F filler through R → x ≡ y
   cut-once F filler through R x y p q = p ∙ sym q
 
 -- a reply that fits is the message, and zeros follow it

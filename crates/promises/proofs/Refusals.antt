@@ -5,11 +5,10 @@ use mathlib.Core.Bool.{Bool, true, false}
 use mathlib.Core.Path.{_≡_, refl, sym, ap, _∙_, subst}
 use mathlib.Core.List.{List}
 use native.Mathlib.Omega.{arith}
-use borrow.Author.Tests.{leb-true, leb-false, eqb-true, eqb-false}
+use borrow.Author.Tests.{leb-true, leb-false, lt-leb, eqb-true, eqb-false, ne-eqb}
 use lib.Dec.{leb, eqb}
 use lib.ListN.{length}
 use Rattle.basics.specs.Choice.{pick}
-use Rattle.basics.specs.Words.{zeros}
 use Rattle.packet.specs.declared.Refusal.{Refusal}
 use Rattle.packet.specs.declared.Refusal.the-variants.{UnsoundRecord, FlashLength, ReplyShort, PacketShort, NoCommand, LengthDiffers, OpcodeUnlisted, PayloadLength, InnerSize, FillerLength}
 use Rattle.packet.specs.declared.Command.{Command}
@@ -18,15 +17,17 @@ use Rattle.packet.specs.declared.Reading.the-variants.{Lawful, Refused as Unlaw
 use Rattle.packet.specs.Packets.{numberOf, readOf}
 use Rattle.packet.specs.Lawful.{Bytes, Applies, LawfulPacket, Given as GivenOf}
 use Rattle.packet.proofs.Lawful.{taken, none, least}
-use Rattle.device.specs.declared.Device.{Device}
-use Rattle.device.specs.Whole.{lost}
+use Rattle.device.specs.Types.{Device}
 use Rattle.soundness.specs.Sound.{sound}
 use Rattle.services.specs.declared.Numbers.{Numbers}
+use Rattle.services.specs.declared.Verdict.{Verdict}
 use Rattle.services.specs.declared.Verdict.the-variants.{Taken, Refused}
-use Rattle.jobs.specs.Jobs.{hasJob}
-use Rattle.services.specs.Calls.{Result, RestartResult, WorkResult, restartResult, workResult, refused, lent, answered, byReading, handled, eventFor, restarted, workedOn, worked, restarting, cutIn, cutting, cutOff}
-use Rattle.promises.specs.Refusals.{Unsound, NotLent, Short, NoFiller, OfHandle, Rows, OfRestart, OfWork, OfCut, Given}
+use Rattle.services.proofs.Gated.{differ, same-refusal}
+use Rattle.device.specs.Modes.{hasJob}
+use Rattle.services.specs.Calls.{HandleResult, CutResult, RestartResult, WorkResult, gated, passed, handleRefused, restartRefused, workRefused, cutRefused, working, lent, answered, byReading, handled, restarted, worked, cutting, cutOff}
+use Rattle.promises.specs.Refusals.{Unsound, Short, OfHandle, Rows, OfRestart, OfWork, OfCut, Given}
 use Rattle.promises.proofs.Under.{never}
+use Rattle.promises.proofs.Still.{either}
 
 -- 1 is the least number, below 2 stands only 1, below 3 only 1 and 2
 least-one : (q : Refusal) → 1 ≤ numberOf q
@@ -80,8 +81,8 @@ module _ (k : Numbers) (d : Device) (F bytes R : List ℕ) (b : Bytes bytes) whe
   Applying = OfHandle k d F bytes R
 
   -- what handle finds: the least refusal, or a lawful command on a sound record and fitting buffers
-  data Handled : Result → Type 0 where
-    no : (r : Refusal) → Given Applying r → Handled (refused r d F R)
+  data Handled : HandleResult → Type 0 where
+    no : (r : Refusal) → Given Applying r → Handled (handleRefused d F R r)
     yes : (command : Command) → sound (k .size) (k .top) d ≡ true → length F ≡ k .count * k .size → 8 ≤ length R → LawfulPacket bytes → Handled (answered k d F bytes R command)
 
   module _ (s : sound (k .size) (k .top) d ≡ true) (e : length F ≡ k .count * k .size) (h : 8 ≤ length R) where
@@ -116,33 +117,33 @@ module _ (k : Numbers) (d : Device) (F bytes R : List ℕ) (b : Bytes bytes) whe
         no r (there r (g .0), lower (numberOf r) (g .1))
 
   judged : Handled (handled k d F bytes R)
-  unfolding handled pick
+  unfolding handled gated pick
   judged = go (sound (k .size) (k .top) d) refl (lent k F) refl (leb 8 (length R)) refl
     where
       go : (t : Bool) → sound (k .size) (k .top) d ≡ t → (u : Bool) → lent k F ≡ u → (v : Bool) → leb 8 (length R) ≡ v
-          → Handled (pick t (pick u (pick v (byReading (readOf bytes) k d F bytes R) (refused ReplyShort d F R)) (refused FlashLength d F R)) (refused UnsoundRecord d F R))
+          → Handled (passed (gated t u v true) (byReading (readOf bytes) k d F bytes R) (handleRefused d F R))
       go false s u e v h = no UnsoundRecord (s, first Applying)
       go true s false e v h = no FlashLength (eqb-false _ _ e, second Applying (sound-so k d s))
       go true s true e false h = no ReplyShort (leb-false _ _ h, third Applying (sound-so k d s) (λ a. a (eqb-true _ _ e)))
       go true s true e true h = by-reading s (eqb-true _ _ e) (leb-true _ _ h) (readOf bytes) refl
 
   -- a refusal is the least number that applies, gives the device back, leaves flash untouched and fills the reply buffer with zeros
-  refused-by : (r : Refusal) (x : Result) → Handled x → x .verdict ≡ Refused r → Given Applying r × (x ≡ refused r d F R)
-  refused-by r x (no q g) e = let f : q ≡ r = cc in (subst (Given Applying) f g, ap (λ (p : Refusal). refused p d F R) f)
+  refused-by : (r : Refusal) (x : HandleResult) → Handled x → x .verdict ≡ Refused r → Given Applying r × (x ≡ handleRefused d F R r)
+  refused-by r x (no q g) e = let f : q ≡ r = cc in (subst (Given Applying) f g, ap (λ (p : Refusal). handleRefused d F R p) f)
   refused-by r x (yes command s l h p) e = let z : _≡_ {A = ℕ} 0 1 = cc in absurd (omega arith)
 
-  pub handle-refused : (r : Refusal) → handled k d F bytes R .verdict ≡ Refused r → Given Applying r × (handled k d F bytes R ≡ refused r d F R)
+  pub handle-refused : (r : Refusal) → handled k d F bytes R .verdict ≡ Refused r → Given Applying r × (handled k d F bytes R ≡ handleRefused d F R r)
   handle-refused r e = refused-by r _ judged e
 
   -- on a sound record and fitting buffers a packet is taken exactly when lawful
-  taken-by : (x : Result) → Handled x → x .verdict ≡ Taken → (sound (k .size) (k .top) d ≡ true) × (length F ≡ k .count * k .size) × (8 ≤ length R) × LawfulPacket bytes
+  taken-by : (x : HandleResult) → Handled x → x .verdict ≡ Taken → (sound (k .size) (k .top) d ≡ true) × (length F ≡ k .count * k .size) × (8 ≤ length R) × LawfulPacket bytes
   taken-by x (no q g) e = let z : _≡_ {A = ℕ} 0 1 = cc in absurd (omega arith)
   taken-by x (yes command s l h p) e = (s, l, h, p)
 
   pub handle-taken : handled k d F bytes R .verdict ≡ Taken → (sound (k .size) (k .top) d ≡ true) × (length F ≡ k .count * k .size) × (8 ≤ length R) × LawfulPacket bytes
   handle-taken e = taken-by _ judged e
 
-  lawful-taken : (x : Result) → Handled x → sound (k .size) (k .top) d ≡ true → length F ≡ k .count * k .size → 8 ≤ length R → LawfulPacket bytes → x .verdict ≡ Taken
+  lawful-taken : (x : HandleResult) → Handled x → sound (k .size) (k .top) d ≡ true → length F ≡ k .count * k .size → 8 ≤ length R → LawfulPacket bytes → x .verdict ≡ Taken
   lawful-taken x (yes command s' l' h' p') s l h p = refl
   lawful-taken x (no q g) s l h p = absurd (lower s l h 11 (λ r n a. none bytes p r a) q (few q) (g .0))
     where
@@ -174,74 +175,93 @@ fourth unsound flash reply filler one two three PayloadLength l a = a
 fourth unsound flash reply filler one two three InnerSize l a = a
 fourth unsound flash reply filler one two three FillerLength l a = omega arith
 
+-- the gate gives the least number whose test fails
+gate-given : (s l f x : Bool) (r : Refusal) → gated s l f x ≡ Refused r → Given (Rows (s ≡ false) (l ≡ false) (f ≡ false) (x ≡ false)) r
+unfolding gated pick
+gate-given s l f x r = go s l f x
+  where
+    told : (s l f x : Bool) (q : Refusal) → Given (Rows (s ≡ false) (l ≡ false) (f ≡ false) (x ≡ false)) q → Refused q ≡ Refused r → Given (Rows (s ≡ false) (l ≡ false) (f ≡ false) (x ≡ false)) r
+    told s l f x q g e = subst (Given (Rows (s ≡ false) (l ≡ false) (f ≡ false) (x ≡ false))) (same-refusal q r e) g
+
+    no : true ≡ false → ⊥
+    no e = never (sym e)
+
+    go : (s l f x : Bool) → gated s l f x ≡ Refused r → Given (Rows (s ≡ false) (l ≡ false) (f ≡ false) (x ≡ false)) r
+    go false l f x e = told false l f x UnsoundRecord (refl, first _) e
+    go true false f x e = told true false f x FlashLength (refl, second _ no) e
+    go true true false x e = told true true false x ReplyShort (refl, third _ no no) e
+    go true true true false e = told true true true false FillerLength (refl, fourth _ _ _ _ no no no) e
+    go true true true true e = differ r e
+
+-- rows that say the same
+pub record Same (A B : Type 0) : Type 0 where
+  pub to : A → B
+  pub from : B → A
+
+itself : (A : Type 0) → Same A A
+itself A = record { to = λ a. a; from = λ a. a }
+
+unused : Same (true ≡ false) ⊥
+unused = record { to = λ e. never (sym e); from = λ z. absurd z }
+
+short-so : (least : ℕ) (R : List ℕ) → Same (leb least (length R) ≡ false) (Short least R)
+short-so least R = record { to = leb-false _ _; from = λ h. lt-leb _ _ h }
+
+other-so : (m n : ℕ) → Same (eqb m n ≡ false) (m ≡ n → ⊥)
+other-so m n = record { to = eqb-false _ _; from = λ h. ne-eqb _ _ h }
+
+module _ {a b c d a' b' c' d' : Type 0} (p : Same a a') (q : Same b b') (u : Same c c') (v : Same d d') where
+  row-to : (r : Refusal) → Rows a b c d r → Rows a' b' c' d' r
+  row-to UnsoundRecord x = p .to x
+  row-to FlashLength x = q .to x
+  row-to ReplyShort x = u .to x
+  row-to PacketShort x = x
+  row-to NoCommand x = x
+  row-to LengthDiffers x = x
+  row-to OpcodeUnlisted x = x
+  row-to PayloadLength x = x
+  row-to InnerSize x = x
+  row-to FillerLength x = v .to x
+
+  row-from : (r : Refusal) → Rows a' b' c' d' r → Rows a b c d r
+  row-from UnsoundRecord x = p .from x
+  row-from FlashLength x = q .from x
+  row-from ReplyShort x = u .from x
+  row-from PacketShort x = x
+  row-from NoCommand x = x
+  row-from LengthDiffers x = x
+  row-from OpcodeUnlisted x = x
+  row-from PayloadLength x = x
+  row-from InnerSize x = x
+  row-from FillerLength x = v .from x
+
+  given-same : (r : Refusal) → Given (Rows a b c d) r → Given (Rows a' b' c' d') r
+  given-same r g = (row-to r (g .0), λ s l x. g .1 s l (row-from s x))
+
+-- a call that is refused was refused by the gate, and gives back what a refusal gives
+module _ {A : Type 0} (verdict : A → Verdict) (x : A) (back : Refusal → A) (taken : verdict x ≡ Taken) (turned : (q : Refusal) → verdict (back q) ≡ Refused q) where
+  by-gate : (v : Verdict) (r : Refusal) → verdict (passed v x back) ≡ Refused r → (v ≡ Refused r) × (passed v x back ≡ back r)
+  by-gate Taken r e = differ r (sym taken ∙ e)
+  by-gate (Refused q) r e = let f : q ≡ r = same-refusal q r (sym (turned q) ∙ e) in (ap Refused f, ap back f)
+
 module _ (k : Numbers) (d : Device) where
-  -- a taken call and a refused one are told apart by the verdict
-  differ : {A : Type 0} (r : Refusal) → Taken ≡ Refused r → A
-  differ r e = let z : _≡_ {A = ℕ} 0 1 = cc in absurd (omega arith)
+  pub restart-refused : (R : List ℕ) (r : Refusal) → restarted k d R .verdict ≡ Refused r → Given (OfRestart k d R) r × (restarted k d R ≡ restartRefused d R r)
+  unfolding restarted
+  restart-refused R r e =
+      let g = by-gate (λ (x : RestartResult). x .verdict) _ (restartRefused d R) refl (λ q. refl) _ r e in
+      (given-same (itself (Unsound k d)) unused (short-so 6 R) unused r (gate-given _ true _ true r (g .0)), g .1)
 
-  same-refusal : (q r : Refusal) → Refused q ≡ Refused r → q ≡ r
-  same-refusal q r e = cc
+  pub work-refused : (F : List ℕ) (r : Refusal) → worked k d F .verdict ≡ Refused r → Given (OfWork k d F) r × (worked k d F ≡ workRefused d F r)
+  unfolding worked
+  work-refused F r e =
+      let t : working k d F .verdict ≡ Taken = either (λ (x : WorkResult). x .verdict ≡ Taken) (hasJob (d .head .mode)) _ _ refl refl in
+      let g = by-gate (λ (x : WorkResult). x .verdict) _ (workRefused d F) t (λ q. refl) _ r e in
+      (given-same (itself (Unsound k d)) (other-so _ _) unused unused r (gate-given _ _ true true r (g .0)), g .1)
 
-  pub restart-refused : (R : List ℕ) (r : Refusal) → restarted k d R .verdict ≡ Refused r → Given (OfRestart k d R) r × (restarted k d R ≡ restartResult (Refused r) d (zeros (length R)))
-  unfolding restarted pick
-  restart-refused R r = go (sound (k .size) (k .top) d) refl (leb 6 (length R)) refl
-    where
-      x : Bool → Bool → RestartResult
-      x t u = pick t (pick u (restartResult Taken (lost d) (eventFor d (length R))) (restartResult (Refused ReplyShort) d (zeros (length R)))) (restartResult (Refused UnsoundRecord) d (zeros (length R)))
-
-      told : (q : Refusal) → Given (OfRestart k d R) q → Refused q ≡ Refused r → Given (OfRestart k d R) r × (restartResult (Refused q) d (zeros (length R)) ≡ restartResult (Refused r) d (zeros (length R)))
-      told q g e = let f : q ≡ r = same-refusal q r e in (subst (Given (OfRestart k d R)) f g, ap (λ (p : Refusal). restartResult (Refused p) d (zeros (length R))) f)
-
-      go : (t : Bool) → sound (k .size) (k .top) d ≡ t → (u : Bool) → leb 6 (length R) ≡ u → x t u .verdict ≡ Refused r
-          → Given (OfRestart k d R) r × (x t u ≡ restartResult (Refused r) d (zeros (length R)))
-      go false s u h e = told UnsoundRecord (s, first (OfRestart k d R)) e
-      go true s false h e = told ReplyShort (leb-false _ _ h, third (OfRestart k d R) (sound-so k d s) (λ a. a)) e
-      go true s true h e = differ r e
-
-  pub work-refused : (F : List ℕ) (r : Refusal) → worked k d F .verdict ≡ Refused r → Given (OfWork k d F) r × (worked k d F ≡ workResult (Refused r) d F 0)
-  unfolding worked pick
-  work-refused F r = go (sound (k .size) (k .top) d) refl (lent k F) refl (hasJob (d .head .mode))
-    where
-      x : Bool → Bool → Bool → WorkResult
-      x t u v = pick t (pick u (pick v (workedOn k d F) (workResult Taken d F 0)) (workResult (Refused FlashLength) d F 0)) (workResult (Refused UnsoundRecord) d F 0)
-
-      told : (q : Refusal) → Given (OfWork k d F) q → Refused q ≡ Refused r → Given (OfWork k d F) r × (workResult (Refused q) d F 0 ≡ workResult (Refused r) d F 0)
-      told q g e = let f : q ≡ r = same-refusal q r e in (subst (Given (OfWork k d F)) f g, ap (λ (p : Refusal). workResult (Refused p) d F 0) f)
-
-      go : (t : Bool) → sound (k .size) (k .top) d ≡ t → (u : Bool) → lent k F ≡ u → (v : Bool) → x t u v .verdict ≡ Refused r
-          → Given (OfWork k d F) r × (x t u v ≡ workResult (Refused r) d F 0)
-      go false s u h v e = told UnsoundRecord (s, first (OfWork k d F)) e
-      go true s false h v e = told FlashLength (eqb-false _ _ h, second (OfWork k d F) (sound-so k d s)) e
-      go true s true h true e = differ r e
-      go true s true h false e = differ r e
-
-  module _ (F filler : List ℕ) (through : Bool) (R : List ℕ) where
-    abbrev OfThis : Refusal → Type 0
-    OfThis = OfCut k d F filler R
-
-    taken-cut : (v : Bool) (r : Refusal) → pick v (cutIn k d F filler through R) (restarting d F R) .verdict ≡ Refused r → ⊥
-    unfolding pick
-    taken-cut true r e = differ r e
-    taken-cut false r e = differ r e
-
-    cut-told : (q r : Refusal) → Given OfThis q → Refused q ≡ Refused r → Given OfThis r × (refused q d F R ≡ refused r d F R)
-    cut-told q r g e = let f : q ≡ r = same-refusal q r e in (subst (Given OfThis) f g, ap (λ (p : Refusal). refused p d F R) f)
-
-    pub cut-refused : (r : Refusal) → cutOff k d F filler through R .verdict ≡ Refused r → Given OfThis r × (cutOff k d F filler through R ≡ refused r d F R)
-    unfolding cutOff pick
-    cut-refused r =
-        go (sound (k .size) (k .top) d) refl (lent k F) refl (leb 6 (length R)) refl (eqb (length filler) (k .size)) refl
-      where
-        x : Bool → Bool → Bool → Bool → Result
-        x t u v w =
-            pick t (pick u (pick v (pick w (cutting k d F filler through R) (refused FillerLength d F R)) (refused ReplyShort d F R)) (refused FlashLength d F R)) (refused UnsoundRecord d F R)
-
-        go : (t : Bool) → sound (k .size) (k .top) d ≡ t → (u : Bool) → lent k F ≡ u → (v : Bool) → leb 6 (length R) ≡ v → (w : Bool) → eqb (length filler) (k .size) ≡ w
-            → x t u v w .verdict ≡ Refused r → Given OfThis r × (x t u v w ≡ refused r d F R)
-        go false s u l v h w f e = cut-told UnsoundRecord r (s, first OfThis) e
-        go true s false l v h w f e = cut-told FlashLength r (eqb-false _ _ l, second OfThis (sound-so k d s)) e
-        go true s true l false h w f e = cut-told ReplyShort r (leb-false _ _ h, third OfThis (sound-so k d s) (λ a. a (eqb-true _ _ l))) e
-        go true s true l true h false f e =
-            cut-told FillerLength r
-            (eqb-false _ _ f, fourth (Unsound k d) (NotLent k F) (Short 6 R) (NoFiller k filler) (sound-so k d s) (λ a. a (eqb-true _ _ l)) (λ a. let g : 6 ≤ length R = leb-true _ _ h in omega arith)) e
-        go true s true l true h true f e = absurd (taken-cut (hasJob (d .head .mode)) r e)
+  pub cut-refused : (F filler : List ℕ) (through : Bool) (R : List ℕ) (r : Refusal) → cutOff k d F filler through R .verdict ≡ Refused r
+      → Given (OfCut k d F filler R) r × (cutOff k d F filler through R ≡ cutRefused d F R r)
+  unfolding cutOff
+  cut-refused F filler through R r e =
+      let t : cutting k d F filler through R .verdict ≡ Taken = either (λ (x : CutResult). x .verdict ≡ Taken) (hasJob (d .head .mode)) _ _ refl refl in
+      let g = by-gate (λ (x : CutResult). x .verdict) _ (cutRefused d F R) t (λ q. refl) _ r e in
+      (given-same (itself (Unsound k d)) (other-so _ _) (short-so 6 R) (other-so _ _) r (gate-given _ _ _ _ r (g .0)), g .1)

@@ -21,7 +21,7 @@ use Rattle.device.specs.Kind.{sectorSize, fusSector, flashLength, freshHead, fr
 use Rattle.decisions.specs.Decisions.{decided as decidedOn}
 use Rattle.soundness.specs.Sound.{headSound, allBelow, slotsSound, sound}
 use Rattle.services.specs.declared.Verdict.the-variants.{Taken}
-use Rattle.services.specs.Calls.{first, result, lent, termsOf, handled}
+use Rattle.services.specs.Calls.{first, gated, handleResult, lent, termsOf, handled}
 use Rattle.promises.specs.Image.{Holds}
 
 module _ {S : ℕ} {terms : Terms} {key F : List ℕ} {p size version : ℕ} (h : Holds S terms key F p size version) where
@@ -50,11 +50,11 @@ module _ {F : List ℕ} {p size version : ℕ} (sized : length F ≡ flashLength
   lent-so = eq-eqb _ _ sized
 
   pub fresh-taken : roomFor sectorSize p size fusSector ≡ true
-      → handled first freshDevice F askUpgrade (zeros 8) ≡ result Taken (withHead (withMode (Upgrade p size version 0) freshHead) freshDevice) F (replyUpgrade 0x00)
-  unfolding handled sound headSound slotsSound allBelow freshDevice zeros readOf commandOf pick replied response decidedOn
+      → handled first freshDevice F askUpgrade (zeros 8) ≡ handleResult Taken (withHead (withMode (Upgrade p size version 0) freshHead) freshDevice) F (replyUpgrade 0x00)
+  unfolding handled gated sound headSound slotsSound allBelow freshDevice zeros readOf commandOf pick replied response decidedOn
   fresh-taken e = rw (lent-so, taken h e)
 
   pub fresh-no-room : roomFor sectorSize p size fusSector ≡ false
-      → handled first freshDevice F askUpgrade (zeros 8) ≡ result Taken (withHead (withError 0x04 freshHead) freshDevice) F (replyUpgrade 0x01)
-  unfolding handled sound headSound slotsSound allBelow freshDevice zeros readOf commandOf pick replied response decidedOn
+      → handled first freshDevice F askUpgrade (zeros 8) ≡ handleResult Taken (withHead (withError 0x04 freshHead) freshDevice) F (replyUpgrade 0x01)
+  unfolding handled gated sound headSound slotsSound allBelow freshDevice zeros readOf commandOf pick replied response decidedOn
   fresh-no-room e = rw (lent-so, no-room h e)

@@ -1,11 +1,11 @@
 -- What each call does to a sound device with a job.
 -- Assumes nothing.
+use lib.Dec.{leb}
 use Prim.Native.Nat.{ℕ, _*_, _≤_}
 use mathlib.Core.Bool.{Bool, true, false}
 use mathlib.Core.Path.{_≡_, refl}
 use mathlib.Core.List.{List, [], _∷_}
 use borrow.Author.Tests.{le-leb, eq-eqb}
-use lib.Dec.{leb}
 use lib.ListN.{length}
 use Rattle.basics.specs.Choice.{pick}
 use Rattle.packet.specs.declared.Command.{Command}
@@ -15,18 +15,20 @@ use Rattle.packet.specs.declared.Reading.the-variants.{Lawful, Refused}
 use Rattle.packet.specs.Packets.{commandOf, readOf}
 use Rattle.reply.specs.Replies.{response, event, replied}
 use Rattle.answer.specs.declared.Checked.{Checked}
-use Rattle.device.specs.declared.Step.{Step}
-use Rattle.device.specs.declared.Look.{Look}
-use Rattle.device.specs.declared.Device.{Device}
+use Rattle.device.specs.Types.{Step, Look, Device}
 use Rattle.device.specs.declared.Mode.{Mode}
 use Rattle.device.specs.declared.Mode.the-variants.{Stack, Idle, Upgrade, Delete}
 use Rattle.commands.specs.Commands.{isGetState, jobUnderWay}
 use Rattle.decisions.specs.Decisions.{situated, decided, searches}
 use Rattle.device.specs.Whole.{carried}
 use Rattle.soundness.specs.Sound.{sound}
+use Rattle.packet.specs.declared.Refusal.{Refusal}
 use Rattle.services.specs.declared.Numbers.{Numbers}
-use Rattle.jobs.specs.Jobs.{hasJob}
-use Rattle.services.specs.Calls.{Result, lent, keyIn, byReading, handled, restarted, workedOn, worked}
+use Rattle.services.specs.declared.Verdict.{Verdict}
+use Rattle.services.specs.declared.Verdict.the-variants.{Taken, Refused as Turned}
+use Rattle.device.specs.Modes.{hasJob}
+use Rattle.services.specs.Calls.{HandleResult, gated, handleRefused, passed, keyIn, byReading, handled, restarted, workedOn, worked, lent}
+use Rattle.services.proofs.Gated.{all-open}
 use Rattle.services.proofs.Laws.{handled-by}
 use Rattle.promises.proofs.Under.{fus-runs, never}
 
@@ -35,6 +37,11 @@ pub either : {A : Type 0} (Q : A → Type 0) (t : Bool) (x y : A) → Q x → Q 
 unfolding pick
 either Q true x y p q = p
 either Q false x y p q = q
+
+-- what holds of a taken call and of every refusal holds of the call
+pub by-verdict : {A : Type 0} (Q : A → Type 0) (v : Verdict) (x : A) (back : Refusal → A) → Q x → ((r : Refusal) → Q (back r)) → Q (passed v x back)
+by-verdict Q Taken x back p q = p
+by-verdict Q (Turned r) x back p q = q r
 
 -- the situation is that of a job, and no image is looked for
 under-way : (mode : Mode) (a b c : Step) → hasJob mode ≡ true → situated mode a b c ≡ b
@@ -55,7 +62,7 @@ module _ (k : Numbers) (d : Device) (F : List ℕ) (job : hasJob (d .head .mode)
   decided-under l checked command i n = under-way (d .head .mode) _ _ _ job
 
   -- device and flash stay as they are
-  abbrev Still : Result → Type 0
+  abbrev Still : HandleResult → Type 0
   Still r = (r .device ≡ d) × (r .flash ≡ F)
 
   carried-still : (command : Command) (key : List ℕ) → carried (jobUnderWay (d .head) command) key d ≡ d
@@ -70,12 +77,7 @@ module _ (k : Numbers) (d : Device) (F : List ℕ) (job : hasJob (d .head .mode)
 
   packet-so : (packet R : List ℕ) → Still (handled k d F packet R)
   unfolding handled
-  packet-so packet R =
-      either Still (sound (k .size) (k .top) d) _ _
-      (either Still (lent k F) _ _
-      (either Still (leb 8 (length R)) _ _ (reading-still packet R (readOf packet)) (refl, refl))
-      (refl, refl))
-      (refl, refl)
+  packet-so packet R = by-verdict Still (gated (sound (k .size) (k .top) d) (lent k F) (leb 8 (length R)) true) (byReading (readOf packet) k d F packet R) (handleRefused d F R) (reading-still packet R (readOf packet)) (λ r. (refl, refl))
 
   -- a packet, lawful or not, changes neither device nor flash
   pub packet-still : (packet R : List ℕ) → (handled k d F packet R .device ≡ d) × (handled k d F packet R .flash ≡ F)
@@ -89,9 +91,9 @@ module _ (k : Numbers) (d : Device) (F : List ℕ) (job : hasJob (d .head .mode)
 
     -- the start event says FUS
     pub started-so : (R : List ℕ) → 6 ≤ length R → restarted k d R .reply ≡ replied 6 (length R) (event false)
-    unfolding restarted pick
-    started-so R h = rw (s, le-leb _ _ h, fus-runs (d .head .mode) job)
+    unfolding restarted
+    started-so R h = rw (all-open _ true _ true s refl (le-leb _ _ h) refl, fus-runs (d .head .mode) job)
 
     pub worked-so : worked k d F ≡ workedOn k d F
     unfolding worked pick
-    worked-so = rw (s, eq-eqb _ _ e, job)
+    worked-so = rw (all-open _ _ true true s (eq-eqb _ _ e) refl refl, job)

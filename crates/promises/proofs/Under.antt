@@ -8,15 +8,15 @@ use borrow.Author.Tests.{le-leb}
 use Rattle.basics.specs.Choice.{both-true, and-left, and-right}
 use Rattle.plan.specs.Stores.{going, planOf, steps, wants}
 use Rattle.device.specs.declared.Head.{Head}
-use Rattle.device.specs.declared.Device.{Device}
+use Rattle.device.specs.Types.{Device}
 use Rattle.device.specs.declared.Mode.{Mode}
 use Rattle.device.specs.declared.Mode.the-variants.{Stack, Idle, Upgrade, Delete}
 use Rattle.device.specs.Heads.{withMade, withMode, lostHead}
 use Rattle.device.specs.Whole.{lost}
-use Rattle.decisions.specs.Decisions.{isIdle}
+use Rattle.device.specs.Modes.{isIdle, stackRuns, hasJob, recordedIn, withRecorded}
 use Rattle.image.specs.Images.{sizeLawful, versionLawful, roomFor}
-use Rattle.soundness.specs.Sound.{stackRuns, jobOf, planFor, stackSound, partsSound, errorSound, progressSound, modeSound, headSound, keysSound, sound}
-use Rattle.jobs.specs.Jobs.{hasJob, recordedIn, withRecorded, committed, progressed, finished}
+use Rattle.soundness.specs.Sound.{jobOf, planFor, stackSound, partsSound, errorSound, progressSound, modeSound, headSound, keysSound, sound}
+use Rattle.jobs.specs.Jobs.{committed, progressed, finished}
 
 -- tests that hold together, the last exchanged for another that holds
 last-changed : (a b x : Bool) → a && b ≡ true → x ≡ true → a && x ≡ true

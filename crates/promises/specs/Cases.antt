@@ -12,13 +12,13 @@ use Rattle.packet.specs.Packets.{numberOf, readOf}
 use Rattle.image.specs.Images.{roomFor}
 use Rattle.plan.specs.declared.Job.{Job}
 use Rattle.plan.specs.Placement.{blocks, goal, cleared, storeCount}
-use Rattle.device.specs.declared.Device.{Device}
+use Rattle.device.specs.Types.{Device}
 use Rattle.device.specs.declared.Mode.the-variants.{Stack}
 use Rattle.device.specs.Whole.{withHead}
 use Rattle.device.specs.Kind.{sectorSize, fusSector, freshHead, freshDevice}
 use Rattle.soundness.specs.Sound.{sound}
-use Rattle.jobs.specs.Jobs.{withStack}
-use Rattle.services.specs.Calls.{Result, first, byReading, restarted}
+use Rattle.device.specs.Heads.{withStack}
+use Rattle.services.specs.Calls.{HandleResult, first, byReading, restarted}
 
 -- a device with an old stack in sectors 240 to 243, which runs
 unfoldable pub stacked : Device
@@ -44,7 +44,7 @@ same [] (y ∷ ys) = false
 same (x ∷ xs) [] = false
 
 -- a packet to a device with a response buffer of 12 bytes
-abbrev pub given : List ℕ → Device → List ℕ → Result
+abbrev pub given : List ℕ → Device → List ℕ → HandleResult
 given F d packet = byReading (readOf packet) first d F packet (zeros 12)
 
 unfoldable pub talked : List ℕ → Device → List (List ℕ × List ℕ) → Bool

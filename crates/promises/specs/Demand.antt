@@ -12,11 +12,12 @@ use Rattle.plan.specs.declared.Job.{Job}
 use Rattle.plan.specs.Placement.{storeCount}
 use Rattle.plan.specs.Stores.{going, left}
 use Rattle.plan.specs.Final.{finalFlash}
-use Rattle.device.specs.declared.Device.{Device}
+use Rattle.device.specs.Types.{Device}
 use Rattle.device.specs.Whole.{lost}
 use Rattle.soundness.specs.Sound.{jobOf, planFor, sound}
 use Rattle.services.specs.declared.Numbers.{Numbers}
-use Rattle.jobs.specs.Jobs.{hasJob, recordedIn, progressed, finished}
+use Rattle.device.specs.Modes.{hasJob, recordedIn}
+use Rattle.jobs.specs.Jobs.{progressed, finished}
 use Rattle.services.specs.Calls.{handled, restarted, worked, cutOff}
 
 -- an event: a call with any arguments. A packet may be lawful, damaged or rubbish, a filler or a reply buffer of any length: what breaks the

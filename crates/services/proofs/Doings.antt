@@ -1,62 +1,31 @@
--- What a sound record with a job says of it, and what its stores do to the device.
+-- What a sound record with a job says of it.
 -- Assumes nothing.
 use Prim.Native.Nat.{ℕ, _+_, _-_, _≤_, _<_}
 use mathlib.Core.Bool.{Bool, true, false, _&&_}
-use mathlib.Core.Path.{_≡_, refl, ap}
-use mathlib.Core.List.{List}
+use mathlib.Core.Path.{_≡_}
 use native.Mathlib.Nat.{mul-le-mul-right, div-eq-of-lt}
 use native.Mathlib.Omega.{arith}
 use borrow.Author.Tests.{leb-true}
 use lib.Dec.{leb}
-use Rattle.basics.specs.Choice.{pick, and-left, and-right}
-use Rattle.basics.specs.Words.{zeros}
+use Rattle.basics.specs.Choice.{and-left, and-right}
 use Rattle.sectors.specs.Sectors.{sectorsFor}
 use Rattle.image.specs.Images.{sizeLawful, versionLawful, roomFor}
 use Rattle.plan.specs.declared.Job.{Job}
 use Rattle.plan.specs.Placement.{Able}
 use Rattle.plan.specs.Range.{InRange}
-use Rattle.plan.specs.Stores.{Progress, going, ended, planOf, steps, wants, onward, cutShort, stored, spoilt}
+use Rattle.plan.specs.Stores.{planOf, steps, wants}
 use Rattle.plan.proofs.Done.{blocks-hold}
 use Rattle.device.specs.declared.Head.{Head}
-use Rattle.device.specs.declared.Device.{Device}
+use Rattle.device.specs.Types.{Device}
 use Rattle.device.specs.declared.Mode.{Mode}
 use Rattle.device.specs.declared.Mode.the-variants.{Stack, Idle, Upgrade, Delete}
-use Rattle.device.specs.Whole.{withHead, withLocks}
 use Rattle.soundness.specs.Sound.{jobOf, planFor, progressSound, modeSound, sound}
 use Rattle.soundness.proofs.Parts.{parts}
 use Rattle.services.specs.declared.Numbers.{Numbers}
-use Rattle.services.specs.declared.Verdict.the-variants.{Taken}
-use Rattle.services.specs.Calls.{Sensible, workResult, restarting, workedOn, cutIn}
-use Rattle.jobs.specs.Jobs.{hasJob, recordedIn, progressed, headAt, endedAt, nextStore, workTurn, cutTurn, Doing}
+use Rattle.services.specs.Calls.{Sensible}
+use Rattle.device.specs.Modes.{hasJob, recordedIn}
+use Rattle.jobs.specs.Jobs.{Doing}
 use Rattle.services.proofs.Laws.{boundary-some, boundary-low}
-
--- the device at a point of its job, by its head and whether the locks are dropped
-progressed-by : (S top : ℕ) (d : Device) (at : Progress)
-    → pick (endedAt at) (withLocks (zeros 101) (withHead (headAt S top (d .head) at) d)) (withHead (headAt S top (d .head) at) d) ≡ progressed S top d at
-unfolding pick
-progressed-by S top d (going k m) = refl
-progressed-by S top d ended = refl
-
-pub worked-by : (k : Numbers) (d : Device) (F : List ℕ)
-    → workResult Taken
-    (pick (workTurn (k .size) (k .top) (d .head) .ended)
-    (withLocks (zeros 101) (withHead (workTurn (k .size) (k .top) (d .head) .head) d)) (withHead (workTurn (k .size) (k .top) (d .head) .head) d))
-    (stored (k .size) (workTurn (k .size) (k .top) (d .head) .store) F) (workTurn (k .size) (k .top) (d .head) .left)
-    ≡ workedOn k d F
-worked-by k d F =
-    ap (λ (x : Device). workResult Taken x (stored (k .size) (nextStore (k .size) (k .top) (d .head)) F) (workTurn (k .size) (k .top) (d .head) .left))
-    (progressed-by (k .size) (k .top) d (onward (nextStore (k .size) (k .top) (d .head)) (recordedIn (d .head .mode)) (d .head .made)))
-
--- a restart from a point of the job
-started-by : (S top : ℕ) (d : Device) (at : Progress) (F R : List ℕ) → restarting (withHead (headAt S top (d .head) at) d) F R ≡ restarting (progressed S top d at) F R
-started-by S top d (going k m) F R = refl
-started-by S top d ended F R = refl
-
-pub cut-by : (k : Numbers) (d : Device) (F x : List ℕ) (through : Bool) (R : List ℕ)
-    → restarting (withHead (cutTurn (k .size) (k .top) (d .head) through .head) d) (spoilt (k .size) (cutTurn (k .size) (k .top) (d .head) through .store) x F) R
-    ≡ cutIn k d F x through R
-cut-by k d F x through R =
-    started-by (k .size) (k .top) d (cutShort (nextStore (k .size) (k .top) (d .head)) through (recordedIn (d .head .mode))) (spoilt (k .size) (nextStore (k .size) (k .top) (d .head)) x F) R
 
 never : false ≡ true → ⊥
 never e = let z : _≡_ {A = ℕ} 0 1 = cc in omega arith

@@ -2,7 +2,7 @@
 -- Assumes nothing.
 use Prim.Native.Nat.{ℕ, _-_, _*_, _≤_, _<_}
 use mathlib.Core.Bool.{Bool, true, false, not, _&&_, Bool·beq}
-use mathlib.Core.Path.{_≡_, sym, ap, _∙_}
+use mathlib.Core.Path.{_≡_, refl, sym, ap, _∙_}
 use mathlib.Core.List.{List, _∷_}
 use native.Mathlib.Nat.{mul-le-mul-right}
 use native.Mathlib.Omega.{arith}
@@ -23,13 +23,14 @@ use Rattle.image.specs.Images.{checkedOf, Erasable}
 use Rattle.image.proofs.Laws.{from-there}
 use Rattle.image.proofs.Answers.{checked-erasable}
 use Rattle.device.specs.declared.Head.{Head}
-use Rattle.device.specs.declared.Device.{Device}
+use Rattle.device.specs.Types.{Device}
 use Rattle.decisions.specs.Decisions.{searches}
 use Rattle.soundness.specs.Sound.{sound}
 use Rattle.soundness.proofs.Parts.{parts}
 use Rattle.services.specs.declared.Numbers.{Numbers}
-use Rattle.services.specs.Calls.{first, Sensible, termsOf, checkedFor, keyIn, byReading, handled, restarting, cutIn, cutOff}
-use Rattle.jobs.specs.Jobs.{hasJob}
+use Rattle.services.proofs.Gated.{all-open}
+use Rattle.services.specs.Calls.{cutting, first, Sensible, termsOf, checkedFor, keyIn, byReading, handled, restarting, cutIn, cutOff}
+use Rattle.device.specs.Modes.{hasJob}
 
 -- the first kind's numbers
 pub first-sensible : Sensible first
@@ -83,16 +84,20 @@ few-bytes k s = omega (arith, mul-le-mul-right (k .size) (s .few), s .small)
 -- on a sound record and fitting buffers the packet's reading decides
 pub handled-by : (k : Numbers) (d : Device) (F packet R : List ℕ) → sound (k .size) (k .top) d ≡ true → length F ≡ k .count * k .size → 8 ≤ length R
     → handled k d F packet R ≡ byReading (readOf packet) k d F packet R
-unfolding handled pick
-handled-by k d F packet R s e h = rw (s, eq-eqb _ _ e, le-leb _ _ h)
+unfolding handled
+handled-by k d F packet R s e h = rw (all-open _ _ _ true s (eq-eqb _ _ e) (le-leb _ _ h) refl)
 
 -- on a sound record and fitting buffers a cut goes by whether there is a job
 module _ (k : Numbers) (d : Device) (F x : List ℕ) (through : Bool) (R : List ℕ) (s : sound (k .size) (k .top) d ≡ true) (e : length F ≡ k .count * k .size)
     (h : 6 ≤ length R) (f : length x ≡ k .size) where
+  cut-taken : cutOff k d F x through R ≡ cutting k d F x through R
+  unfolding cutOff
+  cut-taken = rw (all-open _ _ _ _ s (eq-eqb _ _ e) (le-leb _ _ h) (eq-eqb _ _ f))
+
   pub cut-busy : hasJob (d .head .mode) ≡ true → cutOff k d F x through R ≡ cutIn k d F x through R
-  unfolding cutOff pick
-  cut-busy j = rw (s, eq-eqb _ _ e, le-leb _ _ h, eq-eqb _ _ f, j)
+  unfolding pick
+  cut-busy j = cut-taken ∙ rw j
 
   pub cut-idle : hasJob (d .head .mode) ≡ false → cutOff k d F x through R ≡ restarting d F R
-  unfolding cutOff pick
-  cut-idle j = rw (s, eq-eqb _ _ e, le-leb _ _ h, eq-eqb _ _ f, j)
+  unfolding pick
+  cut-idle j = cut-taken ∙ rw j

@@ -1,2 +1,4 @@
-pub mod Laws
 pub mod Doings
+pub mod Gated
+pub mod Laws
+pub mod Outcomes

@@ -25,19 +25,26 @@ use Rattle.image.specs.declared.Terms.{Terms}
 use Rattle.image.specs.Images.{checkedOf, flashAfter}
 use Rattle.plan.specs.Stores.{onward, cutShort, stored, spoilt, leftAt}
 use Rattle.device.specs.declared.Head.{Head}
-use Rattle.device.specs.declared.Step.{Step}
-use Rattle.device.specs.declared.Device.{Device}
+use Rattle.device.specs.Types.{Step, Device}
 use Rattle.device.specs.Kind.{sectorSize, sectorCount, fusSector}
 use Rattle.decisions.specs.Decisions.{searches, decided}
 use Rattle.device.specs.Whole.{look, carried, lost}
-use Rattle.soundness.specs.Sound.{stackRuns, planFor, sound}
+use Rattle.device.specs.Modes.{stackRuns, hasJob, recordedIn}
+use Rattle.soundness.specs.Sound.{planFor, sound}
 use Rattle.services.specs.declared.Numbers.{Numbers}
 use Rattle.services.specs.declared.Verdict.{Verdict}
 use Rattle.services.specs.declared.Verdict.the-variants.{Taken, Refused}
-use Rattle.jobs.specs.Jobs.{hasJob, recordedIn, progressed, nextStore}
+use Rattle.jobs.specs.Jobs.{progressed, nextStore}
 
--- all that a call leaves behind: its answer, the next device, the next flash, the reply buffer (of the event, or the response)
-pub record Result : Type 0 where
+-- all that handle leaves behind: its answer, the next device, the next flash, the reply buffer
+pub record HandleResult : Type 0 where
+  pub verdict : Verdict
+  pub device : Device
+  pub flash : List ℕ
+  pub reply : List ℕ
+
+-- the same of cut, whose reply is the event
+pub record CutResult : Type 0 where
   pub verdict : Verdict
   pub device : Device
   pub flash : List ℕ
@@ -56,8 +63,11 @@ pub record WorkResult : Type 0 where
   pub flash : List ℕ
   pub left : ℕ
 
-abbrev pub result : Verdict → Device → List ℕ → List ℕ → Result
-result v d F R = record { verdict = v; device = d; flash = F; reply = R }
+abbrev pub handleResult : Verdict → Device → List ℕ → List ℕ → HandleResult
+handleResult v d F R = record { verdict = v; device = d; flash = F; reply = R }
+
+abbrev pub cutResult : Verdict → Device → List ℕ → List ℕ → CutResult
+cutResult v d F R = record { verdict = v; device = d; flash = F; reply = R }
 
 abbrev pub restartResult : Verdict → Device → List ℕ → RestartResult
 restartResult v d R = record { verdict = v; device = d; reply = R }
@@ -75,15 +85,26 @@ pub record Sensible (k : Numbers) : Type 0 where
   pub below : k .top ≤ k .count
   pub few : k .count ≤ 65536
 
--- a refusal returns its number and the given device, leaves flash untouched and fills the reply buffer, whatever its length, with zeros
-abbrev pub refused : Refusal → Device → List ℕ → List ℕ → Result
-refused r d F R = result (Refused r) d F (zeros (length R))
-
 -- the lent flash has N sectors of S bytes
 abbrev pub lent : Numbers → List ℕ → Bool
 lent k F = eqb (length F) (k .count * k .size)
 
+-- THE GATE: of refusals 1, 2, 3 and 10 the lowest whose test fails, in the paper's words: the record is sound, the flash has its length, the
+-- reply fits its buffer, the filler has a sector's length. A call that does not use a number gives true for it
+unfoldable pub gated : (sound lent fits filled : Bool) → Verdict
+gated sound lent fits filled =
+    pick sound (pick lent (pick fits (pick filled Taken (Refused FillerLength)) (Refused ReplyShort)) (Refused FlashLength)) (Refused UnsoundRecord)
+
+-- a call goes by its verdict
+abbrev pub passed : {A : Type 0} → Verdict → A → (Refusal → A) → A
+passed Taken x back = x
+passed (Refused r) x back = back r
+
 -- HANDLE A PACKET
+-- a refusal returns its number and the given device, leaves flash untouched and fills the reply buffer, whatever its length, with zeros
+abbrev pub handleRefused : Device → List ℕ → List ℕ → Refusal → HandleResult
+handleRefused d F R r = handleResult (Refused r) d F (zeros (length R))
+
 -- what the device asks of an image
 abbrev pub termsOf : Head → Terms
 termsOf h = record { boundary = h .boundary; auth = h .auth; rollback = h .rollback; floor = h .floor }
@@ -105,13 +126,13 @@ stepFor d command packet checked =
 abbrev pub replyTo : Command → Answer → ℕ → List ℕ
 replyTo command answer n = replied 8 n (response command (statusOf answer) (payloadOf answer))
 
-abbrev pub answeredBy : Numbers → Device → List ℕ → List ℕ → List ℕ → Command → Checked → Result
+abbrev pub answeredBy : Numbers → Device → List ℕ → List ℕ → List ℕ → Command → Checked → HandleResult
 answeredBy k d F packet R command checked =
-    result Taken (carried (stepFor d command packet checked) (keyIn command packet) d)
+    handleResult Taken (carried (stepFor d command packet checked) (keyIn command packet) d)
     (flashAfter (k .size) checked F)
     (replyTo command (stepFor d command packet checked .answer) (length R))
 
-abbrev pub answered : Numbers → Device → List ℕ → List ℕ → List ℕ → Command → Result
+abbrev pub answered : Numbers → Device → List ℕ → List ℕ → List ℕ → Command → HandleResult
 answered k d F packet R command = answeredBy k d F packet R command (checkedFor k (d .head) command (d .key) F)
 
 -- a lawful packet on a sound record and fitting buffers
@@ -123,34 +144,24 @@ pub record Taking (k : Numbers) (d : Device) (F packet R : List ℕ) (command : 
   pub payload : ℕ
   pub reading : readOf packet ≡ Lawful command payload
 
-abbrev pub byReading : Reading → Numbers → Device → List ℕ → List ℕ → List ℕ → Result
+abbrev pub byReading : Reading → Numbers → Device → List ℕ → List ℕ → List ℕ → HandleResult
 byReading (Lawful command n) k d F packet R = answered k d F packet R command
-byReading (Unlawful r) k d F packet R = refused r d F R
+byReading (Unlawful r) k d F packet R = handleRefused d F R r
 
-unfoldable pub handled : Numbers → Device → List ℕ → List ℕ → List ℕ → Result
+unfoldable pub handled : Numbers → Device → List ℕ → List ℕ → List ℕ → HandleResult
 handled k d F packet R =
-    pick (sound (k .size) (k .top) d)
-    (pick (lent k F)
-    (pick (leb 8 (length R)) (byReading (readOf packet) k d F packet R) (refused ReplyShort d F R))
-    (refused FlashLength d F R))
-    (refused UnsoundRecord d F R)
+    passed (gated (sound (k .size) (k .top) d) (lent k F) (leb 8 (length R)) true) (byReading (readOf packet) k d F packet R) (handleRefused d F R)
 
 -- RESTART: the lost things are lost, and the event tells which program runs; a job pending at start means FUS runs
 abbrev pub eventFor : Device → ℕ → List ℕ
 eventFor d n = replied 6 n (event (stackRuns (d .head .mode)))
 
+abbrev pub restartRefused : Device → List ℕ → Refusal → RestartResult
+restartRefused d R r = restartResult (Refused r) d (zeros (length R))
+
 unfoldable pub restarted : Numbers → Device → List ℕ → RestartResult
 restarted k d R =
-    pick (sound (k .size) (k .top) d)
-    (pick (leb 6 (length R)) (restartResult Taken (lost d) (eventFor d (length R)))
-    (restartResult (Refused ReplyShort) d (zeros (length R))))
-    (restartResult (Refused UnsoundRecord) d (zeros (length R)))
-
--- a sound record with a job, and the lent flash
-pub record Busy (k : Numbers) (d : Device) (F : List ℕ) : Type 0 where
-  pub record-sound : sound (k .size) (k .top) d ≡ true
-  pub lent-flash : length F ≡ k .count * k .size
-  pub job : hasJob (d .head .mode) ≡ true
+    passed (gated (sound (k .size) (k .top) d) true (leb 6 (length R)) true) (restartResult Taken (lost d) (eventFor d (length R))) (restartRefused d R)
 
 -- WORK: one store, and the stores still to do after it. With no job it answers 0 and does nothing
 abbrev pub workedOn : Numbers → Device → List ℕ → WorkResult
@@ -163,32 +174,29 @@ workedOn k d F =
 abbrev pub working : Numbers → Device → List ℕ → WorkResult
 working k d F = pick (hasJob (d .head .mode)) (workedOn k d F) (workResult Taken d F 0)
 
+abbrev pub workRefused : Device → List ℕ → Refusal → WorkResult
+workRefused d F r = workResult (Refused r) d F 0
+
 unfoldable pub worked : Numbers → Device → List ℕ → WorkResult
-worked k d F =
-    pick (sound (k .size) (k .top) d)
-    (pick (lent k F) (working k d F) (workResult (Refused FlashLength) d F 0))
-    (workResult (Refused UnsoundRecord) d F 0)
+worked k d F = passed (gated (sound (k .size) (k .top) d) (lent k F) true true) (working k d F) (workRefused d F)
 
 -- CUT breaks off the next store: a sector store leaves the filler x in that sector; a record store goes through or not, as the caller
 -- says. A restart follows. With no job, it is a restart only
-abbrev pub restarting : Device → List ℕ → List ℕ → Result
-restarting d F R = result Taken (lost d) F (eventFor d (length R))
+abbrev pub restarting : Device → List ℕ → List ℕ → CutResult
+restarting d F R = cutResult Taken (lost d) F (eventFor d (length R))
 
-abbrev pub cutIn : Numbers → Device → List ℕ → List ℕ → Bool → List ℕ → Result
+abbrev pub cutIn : Numbers → Device → List ℕ → List ℕ → Bool → List ℕ → CutResult
 cutIn k d F x through R =
     restarting
     (progressed (k .size) (k .top) d (cutShort (nextStore (k .size) (k .top) (d .head)) through (recordedIn (d .head .mode))))
     (spoilt (k .size) (nextStore (k .size) (k .top) (d .head)) x F) R
 
-abbrev pub cutting : Numbers → Device → List ℕ → List ℕ → Bool → List ℕ → Result
+abbrev pub cutting : Numbers → Device → List ℕ → List ℕ → Bool → List ℕ → CutResult
 cutting k d F x through R = pick (hasJob (d .head .mode)) (cutIn k d F x through R) (restarting d F R)
 
-unfoldable pub cutOff : Numbers → Device → List ℕ → List ℕ → Bool → List ℕ → Result
+abbrev pub cutRefused : Device → List ℕ → List ℕ → Refusal → CutResult
+cutRefused d F R r = cutResult (Refused r) d F (zeros (length R))
+
+unfoldable pub cutOff : Numbers → Device → List ℕ → List ℕ → Bool → List ℕ → CutResult
 cutOff k d F x through R =
-    pick (sound (k .size) (k .top) d)
-    (pick (lent k F)
-    (pick (leb 6 (length R))
-    (pick (eqb (length x) (k .size)) (cutting k d F x through R) (refused FillerLength d F R))
-    (refused ReplyShort d F R))
-    (refused FlashLength d F R))
-    (refused UnsoundRecord d F R)
+    passed (gated (sound (k .size) (k .top) d) (lent k F) (leb 6 (length R)) (eqb (length x) (k .size))) (cutting k d F x through R) (cutRefused d F R)

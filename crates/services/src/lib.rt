@@ -1,24 +1,27 @@
-// The calls by value: handle a packet, restart, work (one store), cut.
+// The calls on a record's bytes, in place: fresh device, handle a packet, restart, work (one store), cut. `value` has them by value.
+pub mod value;
+
 use answer::Answer;
 use answer::Checked;
 use answer::Failure;
 use device::Device;
-use device::Head;
-use device::Step;
-use device::whole;
+use device::fields;
+use device::places;
 use image::Terms;
 use packet::Command;
 use packet::Reading;
 use packet::Refusal;
 ghost use mathlib.Core.Path.{_≡_};
+ghost use mathlib.Core.Bool.{true};
 ghost use Prim.Native.Nat.{_*_, _≤_};
 ghost use lib.ListN.{length};
 ghost use Rattle.basics.specs.Words.{zeros};
-ghost use Rattle.packet.specs.declared.Reading.the-variants.{Lawful};
-ghost use Rattle.packet.specs.Packets.{readOf};
-ghost use Rattle.basics.specs.Choice.{pick};
-ghost use Rattle.device.specs.Whole.{withHead, withLocks, lost};
-ghost use Rattle.services.specs.Calls.{first, Sensible, Taking, result, restartResult, checkedFor, keyIn, stepFor, replyTo, eventFor, answered, handled, restarted, workResult, Busy, workedOn, worked, cutIn, cutOff};
+ghost use Rattle.device.specs.Types as Types;
+ghost use Rattle.device.specs.Modes.{hasJob};
+ghost use Rattle.device.specs.Layout.{recordLength, encode, decode};
+ghost use Rattle.device.specs.Fields.{Held, Loses};
+ghost use Rattle.services.specs.Calls.{first, Sensible, gated, Taking, checkedFor, keyIn, replyTo, eventFor, answered, workedOn, cutIn};
+ghost use Rattle.services.specs.InPlace.{handlePlaced, restartPlaced, workPlaced, cutPlaced, freshPlaced, handleInBytes, workInBytes, cutInBytes, soundFor, freshInPlace, handledInPlace, restartedInPlace, workedInPlace, cutInPlace};
 
 // The numbers of a kind of device: bytes in a sector, sectors of the lent flash, the first sector of FUS.
 pub struct Numbers {
@@ -33,21 +36,8 @@ pub enum Verdict {
     Refused(Refusal),
 }
 
-// What handle, restart and cut give back.
-pub struct Outcome {
-    pub verdict: Verdict,
-    pub device: Device,
-}
-
-// What work gives back: also the stores still to do.
-pub struct Worked {
-    pub verdict: Verdict,
-    pub device: Device,
-    pub left: usize,
-}
-
 // The numbers of the first kind.
-pub fn first_kind() -> Numbers
+fn first_kind() -> Numbers
     ensures { λ r. ⌜ r ≡ first ⌝ }
 {
     Numbers {
@@ -57,20 +47,48 @@ pub fn first_kind() -> Numbers
     }
 }
 
-// A refused call gives the device back and fills its reply buffer with zeros.
-fn refuse(d: Device, reply: &mut [u8], refusal: Refusal) -> Outcome
-    ensures { λ r. ⌜ r ≡ record { verdict = Verdict.Refused refusal; device = d } ⌝ }
+// Refusals 1, 2, 3 and 10, the lowest first: is the record sound, has the flash its length, does the reply fit, has the filler its length? A
+// call that does not use a number gives true for it.
+fn gate(sound: bool, lent: bool, fits: bool, filled: bool) -> Verdict
+    ensures { λ r. ⌜ r ≡ gated sound lent fits filled ⌝ }
+{
+    if !sound {
+        return Verdict::Refused(Refusal::UnsoundRecord);
+    }
+    if !lent {
+        return Verdict::Refused(Refusal::FlashLength);
+    }
+    if !fits {
+        return Verdict::Refused(Refusal::ReplyShort);
+    }
+    if !filled {
+        return Verdict::Refused(Refusal::FillerLength);
+    }
+    Verdict::Taken
+}
+
+// A refused call fills its reply buffer with zeros.
+fn refuse(reply: &mut [u8], refusal: Refusal) -> Verdict
+    ensures { λ r. ⌜ r ≡ Verdict.Refused refusal ⌝ }
     ensures { λ _. ⌜ now (reply .exit) ≡ zeros (length (now (reply .entry))) ⌝ }
 {
     reply::clear(reply);
-    Outcome {
-        verdict: Verdict::Refused(refusal),
-        device: d,
+    Verdict::Refused(refusal)
+}
+
+// A FRESH DEVICE's bytes; a record of another length is refused and stays as it is.
+pub fn fresh(rec: &mut [u8]) -> Verdict
+    ensures { λ r. ⌜ freshPlaced r (now (rec .exit)) ≡ freshInPlace (now (rec .entry)) ⌝ }
+{
+    if rec.len() != places::LENGTH {
+        return Verdict::Refused(Refusal::UnsoundRecord);
     }
+    fields::set_fresh(rec);
+    Verdict::Taken
 }
 
 // The key bytes of a packet.
-pub fn key_in<'a>(command: Command, packet: &'a [u8]) -> &'a [u8]
+fn key_in<'a>(command: Command, packet: &'a [u8]) -> &'a [u8]
     ensures { λ r. ⌜ now r ≡ keyIn command (now (packet .entry)) ⌝ }
 {
     let n = packet.len();
@@ -87,36 +105,26 @@ pub fn key_in<'a>(command: Command, packet: &'a [u8]) -> &'a [u8]
 }
 
 // The checks, where an image is looked for at all.
-pub fn look_for(k: Numbers, h: Head, command: Command, flash: &[u8], key: &[u8]) -> Checked
+fn look_for(k: Numbers, rec: &[u8], command: Command, flash: &[u8]) -> Checked
     requires { ⌜ Sensible k ⌝ }
-    requires { ⌜ (h .boundary ≤ k .top) × (length (now flash) ≡ k .count * k .size) ⌝ }
-    ensures { λ r. ⌜ r ≡ checkedFor k h command (now (key .entry)) (now (flash .entry)) ⌝ }
+    requires { ⌜ length (now rec) ≡ recordLength ⌝ }
+    requires { ⌜ (decode (now rec) .head .boundary ≤ k .top) × (length (now flash) ≡ k .count * k .size) ⌝ }
+    ensures { λ r. ⌜ r ≡ checkedFor k (decode (now (rec .entry)) .head) command (decode (now (rec .entry)) .key) (now (flash .entry)) ⌝ }
 {
-    let mode = h.mode;
-    if decisions::searches(mode, command) {
+    if decisions::searches(rec, command) {
         let terms = Terms {
-            boundary: h.boundary as usize,
-            auth: h.auth,
-            rollback: h.rollback,
-            floor: h.floor,
+            boundary: fields::boundary(rec) as usize,
+            auth: fields::authed(rec),
+            rollback: fields::rollback(rec),
+            floor: fields::floor(rec),
         };
-        return image::check(flash, k.size, terms, key);
+        return image::check(flash, k.size, terms, fields::auth_key(rec));
     }
     Checked::Fails(Failure::NoImage)
 }
 
-// What is decided on the lawful packet.
-fn decide(d: Device, packet: &[u8], command: Command, checked: Checked) -> Step
-    ensures { λ r. ⌜ r ≡ stepFor d command (now (packet .entry)) checked ⌝ }
-{
-    let first = basics::byte_at(packet, 4);
-    let looked = whole::look_up(&d.kinds, &d.locks, first);
-    let key = key_in(command, packet);
-    decisions::decide(d.head, looked, checked, command, first, key.len())
-}
-
 // The response to a command, written.
-pub fn respond(reply: &mut [u8], command: Command, answer: Answer)
+fn respond(reply: &mut [u8], command: Command, answer: Answer)
     ensures { λ _. ⌜ now (reply .exit) ≡ replyTo command answer (length (now (reply .entry))) ⌝ }
 {
     reply::write_response(
@@ -130,217 +138,187 @@ pub fn respond(reply: &mut [u8], command: Command, answer: Answer)
 // The lawful command of a packet, answered.
 fn answer_to(
     k: Numbers,
-    d: Device,
+    rec: &mut [u8],
     flash: &mut [u8],
     packet: &[u8],
     reply: &mut [u8],
     command: Command,
-) -> Outcome
+) -> Verdict
     requires { ⌜ Sensible k ⌝ }
-    requires { ⌜ Taking k d (now flash) (now packet) (now reply) command ⌝ }
-    ensures { λ r. ⌜ result (r .verdict) (r .device) (now (flash .exit)) (now (reply .exit)) ≡ answered k d (now (flash .entry)) (now (packet .entry)) (now (reply .entry)) command ⌝ }
+    requires { ⌜ Held (now rec) ⌝ }
+    requires { ⌜ Taking k (decode (now rec)) (now flash) (now packet) (now reply) command ⌝ }
+    ensures { λ r. ⌜ handlePlaced r (now (rec .exit)) (now (flash .exit)) (now (reply .exit)) ≡ handleInBytes (answered k (decode (now (rec .entry))) (now (flash .entry)) (now (packet .entry)) (now (reply .entry)) command) ⌝ }
 {
-    let checked = look_for(k, d.head, command, flash, &d.key);
-    let step = decide(d, packet, command, checked);
+    let checked = look_for(k, rec, command, flash);
+    let first = basics::byte_at(packet, 4);
+    let answer = decisions::command(rec, checked, command, first, key_in(command, packet));
     image::clear_after(flash, k.size, checked);
-    let answer = step.answer;
     respond(reply, command, answer);
-    Outcome {
-        verdict: Verdict::Taken,
-        device: whole::carry(d, step, key_in(command, packet)),
-    }
+    Verdict::Taken
 }
 
-// Handles a packet on a device of any kind.
-pub fn handle_as(
+// Handles a packet on the record of a device of any kind.
+fn handle_as(
     k: Numbers,
-    d: Device,
+    rec: &mut [u8],
     flash: &mut [u8],
     packet: &[u8],
     reply: &mut [u8],
-) -> Outcome
+) -> Verdict
     requires { ⌜ Sensible k ⌝ }
-    ensures { λ r. ⌜ result (r .verdict) (r .device) (now (flash .exit)) (now (reply .exit)) ≡ handled k d (now (flash .entry)) (now (packet .entry)) (now (reply .entry)) ⌝ }
+    ensures { λ r. ⌜ handlePlaced r (now (rec .exit)) (now (flash .exit)) (now (reply .exit)) ≡ handledInPlace k (now (rec .entry)) (now (flash .entry)) (now (packet .entry)) (now (reply .entry)) ⌝ }
 {
-    if !soundness::is_sound(d, k.size, k.top) {
-        return refuse(d, reply, Refusal::UnsoundRecord);
-    }
-    if flash.len() != k.count * k.size {
-        return refuse(d, reply, Refusal::FlashLength);
-    }
-    if reply.len() < 8 {
-        return refuse(d, reply, Refusal::ReplyShort);
-    }
-    let reading = packet::read(packet);
-    match reading {
-        Reading::Lawful { command, length: _ } => answer_to(k, d, flash, packet, reply, command),
-        Reading::Refused(refusal) => refuse(d, reply, refusal),
+    let sound = soundness::is_sound(rec, k.size, k.top);
+    let verdict = gate(sound, flash.len() == k.count * k.size, 8 <= reply.len(), true);
+    match verdict {
+        Verdict::Taken => {
+            let reading = packet::read(packet);
+            match reading {
+                Reading::Lawful { command, length: _ } => {
+                    answer_to(k, rec, flash, packet, reply, command)
+                }
+                Reading::Refused(refusal) => refuse(reply, refusal),
+            }
+        }
+        Verdict::Refused(refusal) => refuse(reply, refusal),
     }
 }
 
 // HANDLE A PACKET.
-pub fn handle(d: Device, flash: &mut [u8], packet: &[u8], reply: &mut [u8]) -> Outcome
-    ensures { λ r. ⌜ result (r .verdict) (r .device) (now (flash .exit)) (now (reply .exit)) ≡ handled first d (now (flash .entry)) (now (packet .entry)) (now (reply .entry)) ⌝ }
+pub fn handle(rec: &mut [u8], flash: &mut [u8], packet: &[u8], reply: &mut [u8]) -> Verdict
+    ensures { λ r. ⌜ handlePlaced r (now (rec .exit)) (now (flash .exit)) (now (reply .exit)) ≡ handledInPlace first (now (rec .entry)) (now (flash .entry)) (now (packet .entry)) (now (reply .entry)) ⌝ }
 {
-    handle_as(first_kind(), d, flash, packet, reply)
+    handle_as(first_kind(), rec, flash, packet, reply)
+}
+
+// The device starts: the event tells which program runs, and what is lost is lost.
+fn start(rec: &mut [u8], event: &mut [u8])
+    requires { ⌜ length (now rec) ≡ recordLength ⌝ }
+    ensures { λ _. ⌜ Loses (now (rec .entry)) (now (rec .exit)) ⌝ }
+    ensures { λ _. ⌜ ((d : Types.Device) → now (rec .entry) ≡ encode d → now (event .exit) ≡ eventFor d (length (now (event .entry)))) ⌝ }
+{
+    reply::write_event(event, fields::stack_runs(rec));
+    fields::lose(rec);
+}
+
+// Restarts the record of a device of any kind.
+fn restart_as(k: Numbers, rec: &mut [u8], event: &mut [u8]) -> Verdict
+    requires { ⌜ Sensible k ⌝ }
+    ensures { λ r. ⌜ restartPlaced r (now (rec .exit)) (now (event .exit)) ≡ restartedInPlace k (now (rec .entry)) (now (event .entry)) ⌝ }
+{
+    let sound = soundness::is_sound(rec, k.size, k.top);
+    let verdict = gate(sound, true, 6 <= event.len(), true);
+    match verdict {
+        Verdict::Taken => {
+            start(rec, event);
+            Verdict::Taken
+        }
+        Verdict::Refused(refusal) => refuse(event, refusal),
+    }
 }
 
 // RESTART: the power comes back, and the event tells which program runs.
-pub fn restart_as(k: Numbers, d: Device, event: &mut [u8]) -> Outcome
+pub fn restart(rec: &mut [u8], event: &mut [u8]) -> Verdict
+    ensures { λ r. ⌜ restartPlaced r (now (rec .exit)) (now (event .exit)) ≡ restartedInPlace first (now (rec .entry)) (now (event .entry)) ⌝ }
+{
+    restart_as(first_kind(), rec, event)
+}
+
+// One store of a job. The record is stored before the flash, which is faster.
+fn work_on(k: Numbers, rec: &mut [u8], flash: &mut [u8], left: &mut u32)
     requires { ⌜ Sensible k ⌝ }
-    ensures { λ r. ⌜ restartResult (r .verdict) (r .device) (now (event .exit)) ≡ restarted k d (now (event .entry)) ⌝ }
+    requires { ⌜ (soundFor k (now rec) ≡ true) × (length (now flash) ≡ k .count * k .size) ⌝ }
+    requires { ⌜ hasJob (decode (now rec) .head .mode) ≡ true ⌝ }
+    ensures { λ _. ⌜ workPlaced Verdict.Taken (now (rec .exit)) (now (flash .exit)) (now (left .exit)) ≡ workInBytes (workedOn k (decode (now (rec .entry))) (now (flash .entry))) ⌝ }
 {
-    if !soundness::is_sound(d, k.size, k.top) {
-        return refuse(d, event, Refusal::UnsoundRecord);
-    }
-    if event.len() < 6 {
-        return refuse(d, event, Refusal::ReplyShort);
-    }
-    start(d, event)
-}
-
-// A sound device starts.
-fn start(d: Device, event: &mut [u8]) -> Outcome
-    ensures { λ r. ⌜ r ≡ record { verdict = Verdict.Taken; device = lost d } ⌝ }
-    ensures { λ _. ⌜ now (event .exit) ≡ eventFor d (length (now (event .entry))) ⌝ }
-{
-    let head = d.head;
-    let mode = head.mode;
-    reply::write_event(event, soundness::stack_runs(mode));
-    Outcome {
-        verdict: Verdict::Taken,
-        device: whole::lose(d),
-    }
-}
-
-pub fn restart(d: Device, event: &mut [u8]) -> Outcome
-    ensures { λ r. ⌜ restartResult (r .verdict) (r .device) (now (event .exit)) ≡ restarted first d (now (event .entry)) ⌝ }
-{
-    restart_as(first_kind(), d, event)
-}
-
-// The device after a store: its head, and at the job's end no locks.
-fn advance(d: Device, head: Head, ended: bool) -> Device
-    ensures { λ r. ⌜ r ≡ pick ended (withLocks (zeros 101) (withHead head d)) (withHead head d) ⌝ }
-{
-    if ended {
-        return Device {
-            head,
-            locks: [0; 101],
-            ..d
-        };
-    }
-    Device { head, ..d }
-}
-
-// One store of a job.
-fn work_on(k: Numbers, d: Device, flash: &mut [u8]) -> Worked
-    requires { ⌜ Sensible k ⌝ }
-    requires { ⌜ Busy k d (now flash) ⌝ }
-    ensures { λ r. ⌜ workResult (r .verdict) (r .device) (now (flash .exit)) (r .left) ≡ workedOn k d (now (flash .entry)) ⌝ }
-{
-    let turn = jobs::work_turn(d.head, k.size, k.top);
-    let store = turn.store;
+    let store = jobs::next(rec, k.size, k.top);
+    *left = jobs::advance(rec, k.size, k.top, store) as u32;
     jobs::stores::make(flash, k.size, store);
-    Worked {
-        verdict: Verdict::Taken,
-        device: advance(d, turn.head, turn.ended),
-        left: turn.left,
-    }
 }
 
-// A work that is refused, or has no job to do.
-fn idle_work(d: Device, verdict: Verdict) -> Worked
-    ensures { λ r. ⌜ r ≡ record { verdict = verdict; device = d; left = 0 } ⌝ }
-{
-    Worked {
-        verdict,
-        device: d,
-        left: 0,
-    }
-}
-
-// Works on a device of any kind.
-pub fn work_as(k: Numbers, d: Device, flash: &mut [u8]) -> Worked
+// Works on the record of a device of any kind.
+fn work_as(k: Numbers, rec: &mut [u8], flash: &mut [u8], left: &mut u32) -> Verdict
     requires { ⌜ Sensible k ⌝ }
-    ensures { λ r. ⌜ workResult (r .verdict) (r .device) (now (flash .exit)) (r .left) ≡ worked k d (now (flash .entry)) ⌝ }
+    ensures { λ r. ⌜ workPlaced r (now (rec .exit)) (now (flash .exit)) (now (left .exit)) ≡ workedInPlace k (now (rec .entry)) (now (flash .entry)) ⌝ }
 {
-    if !soundness::is_sound(d, k.size, k.top) {
-        return idle_work(d, Verdict::Refused(Refusal::UnsoundRecord));
+    *left = 0;
+    let sound = soundness::is_sound(rec, k.size, k.top);
+    let verdict = gate(sound, flash.len() == k.count * k.size, true, true);
+    match verdict {
+        Verdict::Taken => {
+            if fields::has_job(rec) {
+                work_on(k, rec, flash, left);
+            }
+            Verdict::Taken
+        }
+        Verdict::Refused(refusal) => Verdict::Refused(refusal),
     }
-    if flash.len() != k.count * k.size {
-        return idle_work(d, Verdict::Refused(Refusal::FlashLength));
-    }
-    let head = d.head;
-    let mode = head.mode;
-    if jobs::has_job(mode) {
-        return work_on(k, d, flash);
-    }
-    idle_work(d, Verdict::Taken)
 }
 
-// WORK: one store, and how many are still to do after it.
-pub fn work(d: Device, flash: &mut [u8]) -> Worked
-    ensures { λ r. ⌜ workResult (r .verdict) (r .device) (now (flash .exit)) (r .left) ≡ worked first d (now (flash .entry)) ⌝ }
+// WORK: one store; `left` becomes how many are still to do after it.
+pub fn work(rec: &mut [u8], flash: &mut [u8], left: &mut u32) -> Verdict
+    ensures { λ r. ⌜ workPlaced r (now (rec .exit)) (now (flash .exit)) (now (left .exit)) ≡ workedInPlace first (now (rec .entry)) (now (flash .entry)) ⌝ }
 {
-    work_as(first_kind(), d, flash)
+    work_as(first_kind(), rec, flash, left)
 }
 
 // The next store of a job is cut, and a restart follows.
 fn cut_on(
     k: Numbers,
-    d: Device,
+    rec: &mut [u8],
     flash: &mut [u8],
     filler: &[u8],
     through: bool,
     event: &mut [u8],
-) -> Outcome
+)
     requires { ⌜ Sensible k ⌝ }
-    requires { ⌜ Busy k d (now flash) × (length (now filler) ≡ k .size) ⌝ }
-    ensures { λ r. ⌜ result (r .verdict) (r .device) (now (flash .exit)) (now (event .exit)) ≡ cutIn k d (now (flash .entry)) (now (filler .entry)) through (now (event .entry)) ⌝ }
+    requires { ⌜ (soundFor k (now rec) ≡ true) × (length (now flash) ≡ k .count * k .size) ⌝ }
+    requires { ⌜ (hasJob (decode (now rec) .head .mode) ≡ true) × (length (now filler) ≡ k .size) ⌝ }
+    ensures { λ _. ⌜ cutPlaced Verdict.Taken (now (rec .exit)) (now (flash .exit)) (now (event .exit)) ≡ cutInBytes (cutIn k (decode (now (rec .entry))) (now (flash .entry)) (now (filler .entry)) through (now (event .entry))) ⌝ }
 {
-    let turn = jobs::cut_turn(d.head, k.size, k.top, through);
-    let store = turn.store;
+    let store = jobs::next(rec, k.size, k.top);
+    jobs::break_off(rec, k.size, k.top, store, through);
     jobs::stores::cut(flash, k.size, store, filler);
-    let head = turn.head;
-    start(Device { head, ..d }, event)
+    start(rec, event);
 }
 
-// Cuts the power of a device of any kind.
-pub fn cut_as(
+// Cuts the power of the record of a device of any kind.
+fn cut_as(
     k: Numbers,
-    d: Device,
+    rec: &mut [u8],
     flash: &mut [u8],
     filler: &[u8],
     through: bool,
     event: &mut [u8],
-) -> Outcome
+) -> Verdict
     requires { ⌜ Sensible k ⌝ }
-    ensures { λ r. ⌜ result (r .verdict) (r .device) (now (flash .exit)) (now (event .exit)) ≡ cutOff k d (now (flash .entry)) (now (filler .entry)) through (now (event .entry)) ⌝ }
+    ensures { λ r. ⌜ cutPlaced r (now (rec .exit)) (now (flash .exit)) (now (event .exit)) ≡ cutInPlace k (now (rec .entry)) (now (flash .entry)) (now (filler .entry)) through (now (event .entry)) ⌝ }
 {
-    if !soundness::is_sound(d, k.size, k.top) {
-        return refuse(d, event, Refusal::UnsoundRecord);
+    let sound = soundness::is_sound(rec, k.size, k.top);
+    let lent = flash.len() == k.count * k.size;
+    let verdict = gate(sound, lent, 6 <= event.len(), filler.len() == k.size);
+    match verdict {
+        Verdict::Taken => {
+            if fields::has_job(rec) {
+                cut_on(k, rec, flash, filler, through, event);
+            } else {
+                start(rec, event);
+            }
+            Verdict::Taken
+        }
+        Verdict::Refused(refusal) => refuse(event, refusal),
     }
-    if flash.len() != k.count * k.size {
-        return refuse(d, event, Refusal::FlashLength);
-    }
-    if event.len() < 6 {
-        return refuse(d, event, Refusal::ReplyShort);
-    }
-    if filler.len() != k.size {
-        return refuse(d, event, Refusal::FillerLength);
-    }
-    let head = d.head;
-    let mode = head.mode;
-    if jobs::has_job(mode) {
-        return cut_on(k, d, flash, filler, through, event);
-    }
-    start(d, event)
 }
 
 // CUT: the power goes during the next store, and comes back.
-pub fn cut(d: Device, flash: &mut [u8], filler: &[u8], through: bool, event: &mut [u8]) -> Outcome
-    ensures { λ r. ⌜ result (r .verdict) (r .device) (now (flash .exit)) (now (event .exit)) ≡ cutOff first d (now (flash .entry)) (now (filler .entry)) through (now (event .entry)) ⌝ }
+pub fn cut(
+    rec: &mut [u8],
+    flash: &mut [u8],
+    filler: &[u8],
+    through: bool,
+    event: &mut [u8],
+) -> Verdict
+    ensures { λ r. ⌜ cutPlaced r (now (rec .exit)) (now (flash .exit)) (now (event .exit)) ≡ cutInPlace first (now (rec .entry)) (now (flash .entry)) (now (filler .entry)) through (now (event .entry)) ⌝ }
 {
-    cut_as(first_kind(), d, flash, filler, through, event)
+    cut_as(first_kind(), rec, flash, filler, through, event)
 }

@@ -14,12 +14,12 @@ use Rattle.image.specs.Images.{sizeLawful, versionLawful, roomFor}
 use Rattle.plan.specs.Placement.{clearedCount}
 use Rattle.plan.specs.Stores.{planOf, wants}
 use Rattle.device.specs.declared.Head.{Head}
-use Rattle.device.specs.declared.Device.{Device}
+use Rattle.device.specs.Types.{Device}
 use Rattle.device.specs.declared.Mode.{Mode}
 use Rattle.device.specs.declared.Mode.the-variants.{Stack, Idle, Upgrade, Delete}
 use Rattle.keys.specs.Keys.{keyLawful}
-use Rattle.decisions.specs.Decisions.{isIdle}
-use Rattle.soundness.specs.Sound.{stackRuns, stackSound, errorSound, jobOf, progressSound, modeSound, sound}
+use Rattle.device.specs.Modes.{isIdle, stackRuns}
+use Rattle.soundness.specs.Sound.{stackSound, errorSound, jobOf, progressSound, modeSound, sound}
 use Rattle.soundness.specs.SoundDevice.{KeySize, plain, encrypted, Listed, e01, e02, e03, e04, e0A, e11, eFF, Progress, SoundDevice}
 use Rattle.soundness.proofs.Slots.{Slot, none, master, user}
 use Rattle.soundness.proofs.Parts.{Parts, parts, whole}

@@ -12,7 +12,8 @@ use Rattle.device.specs.declared.Head.{Head}
 use Rattle.device.specs.declared.Mode.{Mode}
 use Rattle.device.specs.declared.Mode.the-variants.{Stack, Idle, Upgrade, Delete}
 use Rattle.device.specs.Heads.{withError, withLoaded, withCount, withMode, withAsked, withAuth, withLocked, withFloor, lostHead}
-use Rattle.soundness.specs.Sound.{stackRuns, jobOf, progressSound, modeSound}
+use Rattle.device.specs.Modes.{stackRuns}
+use Rattle.soundness.specs.Sound.{jobOf, progressSound, modeSound}
 use Rattle.soundness.proofs.Parts.{Numbers}
 
 -- with no store made, any job is as far as it may be

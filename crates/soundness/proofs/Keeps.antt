@@ -17,8 +17,7 @@ use Rattle.answer.specs.declared.Failure.the-variants.{StackRuns, JobUnderWay, 
 use Rattle.answer.specs.declared.Checked.{Checked}
 use Rattle.answer.specs.declared.Checked.the-variants.{Good, Fails, Erases}
 use Rattle.device.specs.declared.Head.{Head}
-use Rattle.device.specs.declared.Device.{Device}
-use Rattle.device.specs.declared.Step.{Step}
+use Rattle.device.specs.Types.{Device, Step}
 use Rattle.device.specs.declared.Mode.{Mode}
 use Rattle.device.specs.declared.Mode.the-variants.{Stack, Idle, Upgrade, Delete}
 use Rattle.device.specs.Kind.{sectorSize, fusSector, freshDevice}
@@ -28,7 +27,8 @@ use Rattle.keys.specs.Keys.{typeLawful, keyLawful, storeKey, storedKey, loadKey
 use Rattle.commands.specs.Commands.{isGetState, stackRunning, jobUnderWay, getState, deleteStack, startStack, updateAuth, lockAuth, antirollback, upgrade}
 use Rattle.decisions.specs.Decisions.{idle, situated, decided}
 use Rattle.device.specs.Whole.{Shaped, look, carried, lost}
-use Rattle.soundness.specs.Sound.{CheckedLawful, stackRuns, errorSound, modeSound, headSound, slotsSound, allBelow, sound}
+use Rattle.soundness.specs.Sound.{CheckedLawful, errorSound, modeSound, headSound, slotsSound, allBelow, sound}
+use Rattle.device.specs.Modes.{stackRuns}
 use Rattle.soundness.proofs.Laws.{chosen}
 use Rattle.soundness.proofs.Parts.{Numbers, Parts, parts, whole}
 use Rattle.soundness.proofs.Heads.{begun, numbers-error, numbers-lost, numbers-loaded, numbers-count, numbers-auth, numbers-locked, numbers-floor, numbers-asked, numbers-mode}

@@ -6,7 +6,7 @@ use native.Mathlib.Omega.{arith}
 use borrow.Author.Tests.{ltb-true, ltb-false}
 use lib.Dec.{ltb}
 use Rattle.basics.specs.Choice.{pick, and-left, and-right}
-use Rattle.device.specs.declared.Step.{Step}
+use Rattle.device.specs.Types.{Step}
 use Rattle.soundness.specs.Sound.{allBelow}
 
 -- a test of each number below n, as a computed test and as a fact of each

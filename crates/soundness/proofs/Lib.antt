@@ -2,8 +2,8 @@ pub mod Laws
 pub mod Slots
 pub mod Runs
 pub mod Parts
+pub mod Record
 pub mod Keys
 pub mod Heads
 pub mod Keeps
-pub mod Fits
 pub mod Clauses

@@ -8,9 +8,9 @@ use lib.Dec.{leb, eqb}
 use lib.ListN.{getD}
 use Rattle.basics.specs.Choice.{and-left, and-right}
 use Rattle.device.specs.declared.Head.{Head}
-use Rattle.device.specs.declared.Device.{Device}
-use Rattle.decisions.specs.Decisions.{isIdle}
-use Rattle.soundness.specs.Sound.{stackRuns, stackSound, partsSound, errorSound, modeSound, headSound, slotTest, slotsSound, loadedSound, sound}
+use Rattle.device.specs.Types.{Device}
+use Rattle.device.specs.Modes.{isIdle, stackRuns}
+use Rattle.soundness.specs.Sound.{stackSound, partsSound, errorSound, modeSound, headSound, slotTest, slotsSound, loadedSound, sound}
 use Rattle.soundness.proofs.Laws.{all-below, each-below}
 use Rattle.soundness.proofs.Slots.{Slot, slot-of, slot-sound, locked}
 

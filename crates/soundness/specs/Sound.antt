@@ -1,7 +1,7 @@
 -- Paper 01, "Sound means", as a test that computes. S is the size of a sector, `top` the first sector of FUS.
 use Prim.Native.Nat.{ℕ, zero, suc, _+_}
 use mathlib.Core.Path.{_≡_}
-use mathlib.Core.Bool.{Bool, true, false, not, _&&_, _||_, Bool·beq}
+use mathlib.Core.Bool.{Bool, true, not, _&&_, _||_, Bool·beq}
 use mathlib.Core.List.{List}
 use lib.Dec.{ltb, leb, eqb}
 use lib.ListN.{getD}
@@ -12,17 +12,12 @@ use Rattle.answer.specs.declared.Checked.the-variants.{Good, Fails, Erases}
 use Rattle.plan.specs.declared.Job.{Job}
 use Rattle.plan.specs.Stores.{Plan, planOf, steps, wants}
 use Rattle.device.specs.declared.Head.{Head}
-use Rattle.device.specs.declared.Device.{Device}
+use Rattle.device.specs.Types.{Device}
 use Rattle.device.specs.declared.Mode.{Mode}
 use Rattle.device.specs.declared.Mode.the-variants.{Stack, Idle, Upgrade, Delete}
+use Rattle.device.specs.Layout.{decode, isRecord}
 use Rattle.keys.specs.Keys.{keyLawful}
-use Rattle.decisions.specs.Decisions.{isIdle}
-
-abbrev pub stackRuns : Mode → Bool
-stackRuns Stack = true
-stackRuns Idle = false
-stackRuns (Upgrade p size version recorded) = false
-stackRuns (Delete recorded) = false
+use Rattle.device.specs.Modes.{stackRuns, isIdle}
 
 -- the job that a mode has: where the old stack begins is the device's boundary
 abbrev pub jobOf : ℕ → Mode → Job
@@ -123,11 +118,11 @@ slotsSound count kinds sizes locks = allBelow 101 (slotTest count kinds sizes lo
 abbrev pub firstIn : ℕ → ℕ → ℕ → Bool
 firstIn kind size lock = noneIn kind size lock || masterIn kind size lock
 
-abbrev pub userTest : List ℕ → List ℕ → List ℕ → ℕ → Bool
-userTest kinds sizes locks i = eqb i 0 || userIn (getD kinds i 0) (getD sizes i 0) (getD locks i 0)
+abbrev pub placeIn : ℕ → ℕ → ℕ → ℕ → ℕ → Bool
+placeIn i end kind size lock = (ltb i end && userIn kind size lock) || (not (ltb i end) && noneIn kind size lock)
 
-abbrev pub noneTest : ℕ → List ℕ → List ℕ → List ℕ → ℕ → Bool
-noneTest end kinds sizes locks i = ltb i end || noneIn (getD kinds i 0) (getD sizes i 0) (getD locks i 0)
+abbrev pub placeTest : ℕ → ℕ → List ℕ → List ℕ → List ℕ → ℕ → Bool
+placeTest from end kinds sizes locks i = ltb i from || placeIn i end (getD kinds i 0) (getD sizes i 0) (getD locks i 0)
 
 abbrev pub usersEnd : ℕ → ℕ
 usersEnd count = pick (ltb count 100) (count + 1) 101
@@ -144,3 +139,7 @@ keysSound count loaded kinds sizes locks =
 unfoldable pub sound : ℕ → ℕ → Device → Bool
 sound S top d =
     headSound S top (d .head) && keysSound (d .head .count) (d .head .loaded) (d .kinds) (d .sizes) (d .locks)
+
+-- are these the bytes of a sound device?
+unfoldable pub soundRecord : ℕ → ℕ → List ℕ → Bool
+soundRecord S top l = isRecord l && sound S top (decode l)

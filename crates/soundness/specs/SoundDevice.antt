@@ -7,7 +7,7 @@ use mathlib.Core.Logic.{_⊎_}
 use lib.ListN.{getD}
 use Rattle.sectors.specs.Sectors.{sectorsFor}
 use Rattle.plan.specs.Placement.{clearedCount}
-use Rattle.device.specs.declared.Device.{Device}
+use Rattle.device.specs.Types.{Device}
 use Rattle.device.specs.declared.Mode.the-variants.{Stack, Idle, Upgrade, Delete}
 
 -- sizes of a key by its type: 16 or 32 bytes for 1 and 2, 28 or 44 for 3

@@ -1,7 +1,8 @@
 // Is a device sound? `size` is the size of a sector, `top` the first sector of FUS.
-use device::Device;
 use device::Head;
 use device::Mode;
+use device::fields;
+use device::places;
 use plan::Job;
 ghost use mathlib.Core.Path.{_≡_};
 ghost use Prim.Native.Nat.{_≤_, _<_};
@@ -10,14 +11,31 @@ ghost use lib.ListN.{length};
 ghost use Rattle.basics.specs.Choice.{pick};
 ghost use Rattle.plan.specs.Range.{InRange};
 ghost use Rattle.plan.specs.Stores.{planOf};
-ghost use Rattle.soundness.specs.Sound.{stackRuns, stackSound, partsSound, errorSound, progressSound, modeSound, headSound, noneIn, userIn, firstIn, allBelow, userTest, noneTest, usersEnd, slotsSound, loadedSound, keysSound, sound};
+ghost use Rattle.device.specs.Modes.{stackRuns, isIdle};
+ghost use Rattle.soundness.specs.Sound.{stackSound, partsSound, errorSound, progressSound, modeSound, headSound, noneIn, userIn, firstIn, allBelow, placeTest, usersEnd, slotsSound, loadedSound, keysSound, soundRecord};
 
-pub fn stack_runs(mode: Mode) -> bool
+fn stack_runs(mode: Mode) -> bool
     ensures { λ r. ⌜ r ≡ stackRuns mode ⌝ }
 {
     match mode {
         Mode::Stack => true,
         Mode::Idle => false,
+        Mode::Upgrade {
+            p: _,
+            size: _,
+            version: _,
+            recorded: _,
+        } => false,
+        Mode::Delete { recorded: _ } => false,
+    }
+}
+
+fn is_idle(mode: Mode) -> bool
+    ensures { λ r. ⌜ r ≡ isIdle mode ⌝ }
+{
+    match mode {
+        Mode::Stack => false,
+        Mode::Idle => true,
         Mode::Upgrade {
             p: _,
             size: _,
@@ -123,7 +141,7 @@ fn mode_sound(size: usize, top: usize, mode: Mode, present: bool, boundary: u32,
 }
 
 // All that the head says.
-pub fn head_sound(h: Head, size: usize, top: usize) -> bool
+fn head_sound(h: Head, size: usize, top: usize) -> bool
     requires { ⌜ (0 < size) × (size ≤ 65536) ⌝ }
     requires { ⌜ top ≤ 65536 ⌝ }
     ensures { λ r. ⌜ r ≡ headSound size top h ⌝ }
@@ -131,7 +149,7 @@ pub fn head_sound(h: Head, size: usize, top: usize) -> bool
     let mode = h.mode;
     stack_sound(h, top)
         & parts_sound(h, stack_runs(mode))
-        & error_sound(h.error, decisions::is_idle(mode))
+        & error_sound(h.error, is_idle(mode))
         & mode_sound(size, top, mode, h.present, h.boundary, h.made)
 }
 
@@ -157,31 +175,30 @@ fn first_in(kind: u8, size: u8, lock: u8) -> bool
     none_in(kind, size, lock) | ((kind == 2) & lawful & (lock == 0))
 }
 
-// Slots 1 to `end` - 1 hold user keys. No test ends the loop, here and in `none_from`, so they run in lanes of bytes.
-fn users_in<'a>(end: usize, kinds: &'a [u8], sizes: &'a [u8], locks: &'a [u8]) -> bool
-    requires { ⌜ (1 ≤ end) × (end ≤ 101) ⌝ }
+// Slots `from` to `to` - 1: those below `end` hold user keys, the others nothing. No test ends the loop, and a byte of its own counts twice
+// the slot, so it runs in lanes of bytes.
+fn places_in<'a>(
+    from: usize,
+    to: usize,
+    end: usize,
+    kinds: &'a [u8],
+    sizes: &'a [u8],
+    locks: &'a [u8],
+) -> bool
+    requires { ⌜ ((from ≤ to) × (to ≤ 101)) × (end ≤ 101) ⌝ }
     requires { ⌜ (length (now kinds) ≡ 101) × ((length (now sizes) ≡ 101) × (length (now locks) ≡ 101)) ⌝ }
-    ensures { λ r. ⌜ r ≡ allBelow end (userTest (now (kinds .entry)) (now (sizes .entry)) (now (locks .entry))) ⌝ }
+    ensures { λ r. ⌜ r ≡ allBelow to (placeTest from end (now (kinds .entry)) (now (sizes .entry)) (now (locks .entry))) ⌝ }
 {
+    let twice = (end as u8) * 2;
     let mut ok = true;
-    let mut i = 1;
-    while i < end {
-        ok = ok & user_in(kinds[i], sizes[i], locks[i]);
-        i += 1;
-    }
-    ok
-}
-
-// Slots `end` to 100 hold nothing.
-fn none_from<'a>(end: usize, kinds: &'a [u8], sizes: &'a [u8], locks: &'a [u8]) -> bool
-    requires { ⌜ (1 ≤ end) × (end ≤ 101) ⌝ }
-    requires { ⌜ (length (now kinds) ≡ 101) × ((length (now sizes) ≡ 101) × (length (now locks) ≡ 101)) ⌝ }
-    ensures { λ r. ⌜ r ≡ allBelow 101 (noneTest end (now (kinds .entry)) (now (sizes .entry)) (now (locks .entry))) ⌝ }
-{
-    let mut ok = true;
-    let mut i = end;
-    while i < 101 {
-        ok = ok & none_in(kinds[i], sizes[i], locks[i]);
+    let mut n = (from as u8) * 2;
+    let mut i = from;
+    while i < to {
+        let below = n < twice;
+        ok = ok
+            & ((below & user_in(kinds[i], sizes[i], locks[i]))
+                | (!below & none_in(kinds[i], sizes[i], locks[i])));
+        n += 2;
         i += 1;
     }
     ok
@@ -197,15 +214,15 @@ fn users_end(count: u8) -> usize
     101
 }
 
-// The slots as three arrays of a device, or as three parts of a record's bytes.
+// The slots as three arrays of a device, or as three parts of a record's bytes: 96 in six lanes, then the last 16, some of them again.
 fn slots_sound<'a>(count: u8, kinds: &'a [u8], sizes: &'a [u8], locks: &'a [u8]) -> bool
     requires { ⌜ (length (now kinds) ≡ 101) × ((length (now sizes) ≡ 101) × (length (now locks) ≡ 101)) ⌝ }
     ensures { λ r. ⌜ r ≡ slotsSound count (now (kinds .entry)) (now (sizes .entry)) (now (locks .entry)) ⌝ }
 {
     let end = users_end(count);
     first_in(kinds[0], sizes[0], locks[0])
-        & users_in(end, kinds, sizes, locks)
-        & none_from(end, kinds, sizes, locks)
+        & places_in(1, 97, end, kinds, sizes, locks)
+        & places_in(85, 101, end, kinds, sizes, locks)
 }
 
 fn loaded_sound(kind: u8, master: u8) -> bool
@@ -215,7 +232,7 @@ fn loaded_sound(kind: u8, master: u8) -> bool
 }
 
 // All that the arrays say.
-pub fn keys_sound<'a>(
+fn keys_sound<'a>(
     count: u8,
     loaded: u8,
     kinds: &'a [u8],
@@ -230,11 +247,23 @@ pub fn keys_sound<'a>(
     slots & loaded_sound(kind, basics::byte_at(kinds, 0))
 }
 
-pub fn is_sound(d: Device, size: usize, top: usize) -> bool
+// Are these the bytes of a sound device?
+pub fn is_sound(rec: &[u8], size: usize, top: usize) -> bool
     requires { ⌜ (0 < size) × (size ≤ 65536) ⌝ }
     requires { ⌜ top ≤ 65536 ⌝ }
-    ensures { λ r. ⌜ r ≡ sound size top d ⌝ }
+    ensures { λ r. ⌜ r ≡ soundRecord size top (now (rec .entry)) ⌝ }
 {
-    let h = d.head;
-    head_sound(h, size, top) & keys_sound(h.count, h.loaded, &d.kinds, &d.sizes, &d.locks)
+    if rec.len() != places::LENGTH {
+        return false;
+    }
+    let h = fields::read_head(rec);
+    fields::is_head(rec)
+        & (head_sound(h, size, top)
+            & keys_sound(
+                h.count,
+                h.loaded,
+                &rec[places::KINDS..places::SIZES],
+                &rec[places::SIZES..places::KEYS],
+                &rec[places::LOCKS..places::KEY],
+            ))
 }

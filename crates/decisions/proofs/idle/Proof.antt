@@ -24,7 +24,7 @@ enum-told-4 : tie.Need-enum-told-4
 enum-told-4 c = search needs
 
 update-auth-requires : tie.Need-update-auth-requires
-update-auth-requires c κs = search needs
+update-auth-requires c κs = let p = c .before .before .before .before .before .pre in (p .0, p .1 (c .before .enum-told4 .given .1))
 
 enum-told-5 : tie.Need-enum-told-5
 enum-told-5 c = search needs
@@ -68,38 +68,71 @@ enum-told-11 c = search needs
 antirollback-requires : tie.Need-antirollback-requires
 antirollback-requires c κs = search needs
 
+same-length : tie.Need-same-length
+same-length c = search needs
+
 returns : tie.Need-returns
-returns c = rw (c .get-state .ensures, c .before .enum-told .given .1)
+returns c = rw (c .before .before .before .before .enum-told .given .1) (c .before .before .get-state .ensures .by _)
+
+same-length-2 : tie.Need-same-length-2
+same-length-2 c = search needs
 
 returns-2 : tie.Need-returns-2
-returns-2 c = rw (c .upgrade .ensures, c .before .enum-told2 .given .1)
+returns-2 c = rw (c .before .before .before .before .enum-told2 .given .1) (c .before .before .upgrade .ensures .by _)
+
+same-length-3 : tie.Need-same-length-3
+same-length-3 c = search needs
 
 returns-3 : tie.Need-returns-3
-returns-3 c = rw (c .delete-stack .ensures, c .before .enum-told3 .given .1)
+returns-3 c = rw (c .before .before .before .before .enum-told3 .given .1) (c .before .before .delete-stack .ensures .by _)
+
+same-length-4 : tie.Need-same-length-4
+same-length-4 c = search needs
 
 returns-4 : tie.Need-returns-4
-returns-4 c = rw (c .update-auth .ensures, c .before .enum-told4 .given .1)
+returns-4 c = rw (c .before .before .before .before .enum-told4 .given .1) (c .before .before .update-auth .ensures)
+
+same-length-5 : tie.Need-same-length-5
+same-length-5 c = search needs
 
 returns-5 : tie.Need-returns-5
-returns-5 c = rw (c .lock-auth .ensures, c .before .enum-told5 .given .1)
+returns-5 c = rw (c .before .before .before .before .enum-told5 .given .1) (c .before .before .lock-auth .ensures .by _)
+
+same-length-6 : tie.Need-same-length-6
+same-length-6 c = search needs
 
 returns-6 : tie.Need-returns-6
-returns-6 c = rw (c .store-key .ensures, c .before .enum-told6 .given .1)
+returns-6 c = rw (c .before .before .before .before .enum-told6 .given .1) (c .before .before .store-key .ensures)
+
+same-length-7 : tie.Need-same-length-7
+same-length-7 c = search needs
 
 returns-7 : tie.Need-returns-7
-returns-7 c = rw (c .load-key .ensures, c .before .enum-told7 .given .1)
+returns-7 c = rw (c .before .before .before .before .enum-told7 .given .1) (c .before .before .load-key .ensures .by _)
+
+same-length-8 : tie.Need-same-length-8
+same-length-8 c = search needs
 
 returns-8 : tie.Need-returns-8
-returns-8 c = rw (c .start-stack .ensures, c .before .enum-told8 .given .1)
+returns-8 c = rw (c .before .before .before .before .enum-told8 .given .1) (c .before .before .start-stack .ensures .by _)
+
+same-length-9 : tie.Need-same-length-9
+same-length-9 c = search needs
 
 returns-9 : tie.Need-returns-9
-returns-9 c = rw (c .lock-key .ensures, c .before .enum-told9 .given .1)
+returns-9 c = rw (c .before .before .before .before .enum-told9 .given .1) (c .before .before .lock-key .ensures .by _)
+
+same-length-10 : tie.Need-same-length-10
+same-length-10 c = search needs
 
 returns-10 : tie.Need-returns-10
-returns-10 c = rw (c .unload-key .ensures, c .before .enum-told10 .given .1)
+returns-10 c = rw (c .before .before .before .before .enum-told10 .given .1) (c .before .before .unload-key .ensures .by _)
+
+same-length-11 : tie.Need-same-length-11
+same-length-11 c = search needs
 
 returns-11 : tie.Need-returns-11
-returns-11 c = rw (c .antirollback .ensures, c .before .enum-told11 .given .1)
+returns-11 c = rw (c .before .before .before .before .enum-told11 .given .1) (c .before .before .antirollback .ensures .by _)
 
 pub idle-spec : {M : Type 1} → statement M
 idle-spec =
@@ -127,14 +160,25 @@ idle-spec =
     unload-key-requires
     enum-told-11
     antirollback-requires
+    same-length
     returns
+    same-length-2
     returns-2
+    same-length-3
     returns-3
+    same-length-4
     returns-4
+    same-length-5
     returns-5
+    same-length-6
     returns-6
+    same-length-7
     returns-7
+    same-length-8
     returns-8
+    same-length-9
     returns-9
+    same-length-10
     returns-10
+    same-length-11
     returns-11)

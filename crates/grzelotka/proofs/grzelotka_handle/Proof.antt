@@ -1,4 +1,4 @@
-use Rattle.record.specs.InPlace.{Placed}
+use Rattle.services.specs.InPlace.{HandlePlaced}
 use Rattle.grzelotka.specs.Numbers.{numberFor}
 use mathlib.Core.Path.{ap, _∙_}
 use borrow.Author.Needs.{needs}
@@ -21,7 +21,7 @@ same-length-3 : tie.Need-same-length-3
 same-length-3 c = search needs
 
 returns : tie.Need-returns
-returns c = let e = c .before .before .before .before .before .before .before .handle .ensures in (c .number-for .ensures ∙ ap (λ (p : Placed). numberFor (p .verdict)) e, (ap (λ (p : Placed). p .bytes) e, (ap (λ (p : Placed). p .flash) e, ap (λ (p : Placed). p .reply) e)))
+returns c = let e = c .before .before .before .before .before .before .before .handle .ensures in (c .number-for .ensures ∙ ap (λ (p : HandlePlaced). numberFor (p .verdict)) e, (ap (λ (p : HandlePlaced). p .bytes) e, (ap (λ (p : HandlePlaced). p .flash) e, ap (λ (p : HandlePlaced). p .reply) e)))
 
 pub grzelotka-handle-spec : {M : Type 1} → statement M
 grzelotka-handle-spec =

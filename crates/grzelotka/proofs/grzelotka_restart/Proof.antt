@@ -1,4 +1,4 @@
-use Rattle.record.specs.InPlace.{RestartPlaced}
+use Rattle.services.specs.InPlace.{RestartPlaced}
 use Rattle.grzelotka.specs.Numbers.{numberFor}
 use mathlib.Core.Path.{ap, _∙_}
 use borrow.Author.Needs.{needs}

@@ -4,9 +4,8 @@ use mathlib.Core.Path.{refl, sym, ap, _∙_}
 use lib.ListN.{length, drop}
 use borrow.Author.Tests.{not-true, not-false}
 use Rattle.line.specs.Hex.{bytesOf}
-use Rattle.script.proofs.Laws.{from-index, digits-past, digits-many, digits-odd, digits-good}
+use Rattle.script.proofs.Laws.{from-index, digits-past, digits-many, digits-odd, digits-good, counted}
 use native.Mathlib.Omega.{arith}
-use Rattle.script.proofs.Laws.{counted}
 use Rattle.script.proofs.packet_bytes.Statement.{statement}
 use Rattle.script.proofs.packet_bytes.Tie as tie
 

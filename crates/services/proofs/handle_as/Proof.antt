@@ -1,11 +1,17 @@
-use Rattle.basics.specs.Choice.{via-not-false}
-use Rattle.services.proofs.Laws.{few-bytes, handled-by}
-use Rattle.services.specs.Calls.{byReading}
-use Rattle.packet.specs.declared.Reading.{Reading}
-use mathlib.Core.Path.{sym, ap, _∙_}
+use mathlib.Core.Path.{_≡_, ap, sym, _∙_}
+use mathlib.Core.Bool.{true}
 use native.Mathlib.Omega.{arith}
-use Rattle.services.specs.Calls.{handled}
-use Rattle.basics.specs.Choice.{cases}
+use lib.Dec.{leb}
+use lib.ListN.{length}
+use borrow.Author.Tests.{leb-true, eqb-true}
+use Rattle.packet.specs.declared.Reading.{Reading}
+use Rattle.device.specs.Layout.{decode, Bytes}
+use Rattle.services.specs.declared.Verdict.the-variants.{Taken, Refused}
+use Rattle.services.specs.Calls.{lent, gated, byReading}
+use Rattle.services.specs.InPlace.{handleInBytes, soundFor}
+use Rattle.services.proofs.Laws.{few-bytes}
+use Rattle.services.proofs.Gated.{opens}
+use Rattle.services.proofs.Outcomes.{sound-in, held-in, refused-in, handled-open, handled-shut}
 use borrow.Author.Needs.{needs}
 use Rattle.services.proofs.handle_as.Statement.{statement}
 use Rattle.services.proofs.handle_as.Tie as tie
@@ -13,38 +19,14 @@ use Rattle.services.proofs.handle_as.Tie as tie
 is-sound-requires : tie.Need-is-sound-requires
 is-sound-requires c κs = search needs
 
-refuse-requires : tie.Need-refuse-requires
-refuse-requires c κs = search needs
+mul-gate : tie.Need-mul-gate
+mul-gate c = record { fits = omega (arith, few-bytes _ (c .before .before .before .before .before .before .before .pre)) }
 
-same-length : tie.Need-same-length
-same-length c = search needs
+gate-requires : tie.Need-gate-requires
+gate-requires c κs = search needs
 
-returns : tie.Need-returns
-unfolding handled
-returns c = rw (c .before .before .refuse .ensures .0, c .before .before .refuse .ensures .1) (search cases)
-
-mul-if2 : tie.Need-mul-if2
-mul-if2 c = record { fits = omega (arith, few-bytes _ (c .before .before .before .before .before .before .pre)) }
-
-refuse-requires-2 : tie.Need-refuse-requires-2
-refuse-requires-2 c κs = search needs
-
-same-length-2 : tie.Need-same-length-2
-same-length-2 c = search needs
-
-returns-2 : tie.Need-returns-2
-unfolding handled
-returns-2 c = rw (c .before .before .refuse2 .ensures .0, c .before .before .refuse2 .ensures .1) (search cases)
-
-refuse-requires-3 : tie.Need-refuse-requires-3
-refuse-requires-3 c κs = search needs
-
-same-length-3 : tie.Need-same-length-3
-same-length-3 c = search needs
-
-returns-3 : tie.Need-returns-3
-unfolding handled
-returns-3 c = rw (c .before .before .refuse3 .ensures .0, c .before .before .refuse3 .ensures .1) (search cases)
+enum-told : tie.Need-enum-told
+enum-told c = search needs
 
 read-requires : tie.Need-read-requires
 read-requires c κs = search needs
@@ -53,13 +35,58 @@ enum-known-reading : tie.Need-enum-known-reading
 enum-known-reading c = search needs
 
 answer-to-requires : tie.Need-answer-to-requires
-answer-to-requires c κs = (c .before .before .before .before .before .before .before .before .before .before .before .before .before .before .pre, record { record-sound = via-not-false _ _ (c .before .before .before .before .before .before .before .before .before .before .is-sound .ensures) (c .before .before .before .before .before .before .before .before .before .if1 .left); lent-flash = c .before .before .before .before .before .before .before .if2 .left; fitting = c .before .before .before .before .before .before .if3 .left; bytes = λ at. omega (arith, c .before .before .before .before .before .before .before .before .before .before .before .before .shared-slice-known .given at); payload = _; reading = sym (c .before .before .before .before .before .read .ensures) ∙ c .before .before .before .reading .given .1 })
+answer-to-requires c κs = 
+    let g = c .before .before .before .before .before .before .before .before .before in
+    let a = g .before .before .before .before .before .before .before .before .args in
+    let l = a .rec .now in
+    let b : Bytes l = λ i. omega (arith, g .before .before .before .before .before .before .before .slice-known .given i) in
+    let e : gated (soundFor (a .k) l) (lent (a .k) (a .flash .now)) (leb 8 (length (a .reply .now))) true ≡ Taken = rw (g .before .before .is-sound .ensures) at (sym (g .gate .ensures) ∙ c .before .before .before .before .before .before .before .enum-told .given .1) in
+    let o = opens _ _ _ _ e in (
+      g .before .before .before .before .before .before .before .before .pre,
+      (
+        held-in (a .k) l (o .whole) b,
+        record {
+          record-sound = sound-in (a .k) l (o .whole);
+          lent-flash = eqb-true _ _ (o .length);
+          fitting = leb-true _ _ (o .room);
+          bytes = λ i. omega (arith, g .before .before .before .before .before .shared-slice-known .given i);
+          payload = _;
+          reading = sym (c .before .before .before .before .before .before .read .ensures) ∙ c .before .before .before .before .reading .given .1;
+        },
+      ),
+    )
 
 enum-known-reading-2 : tie.Need-enum-known-reading-2
 enum-known-reading-2 c = search needs
 
-refuse-requires-4 : tie.Need-refuse-requires-4
-refuse-requires-4 c κs = search needs
+refuse-requires : tie.Need-refuse-requires
+refuse-requires c κs = search needs
+
+enum-known-verdict : tie.Need-enum-known-verdict
+enum-known-verdict c = search needs
+
+refuse-requires-2 : tie.Need-refuse-requires-2
+refuse-requires-2 c κs = search needs
+
+same-length : tie.Need-same-length
+same-length c = search needs
+
+same-length-2 : tie.Need-same-length-2
+same-length-2 c = search needs
+
+same-length-3 : tie.Need-same-length-3
+same-length-3 c = search needs
+
+returns : tie.Need-returns
+returns c = 
+    let g = c .before .before .before .before .before .before .before .before .before .before .before .before .before .before .before .before in
+    let a = g .before .before .before .before .before .before .before .before .args in
+    let l = a .rec .now in
+    let b : Bytes l = λ i. omega (arith, g .before .before .before .before .before .before .before .slice-known .given i) in
+    let e : gated (soundFor (a .k) l) (lent (a .k) (a .flash .now)) (leb 8 (length (a .reply .now))) true ≡ Taken = rw (g .before .before .is-sound .ensures) at (sym (g .gate .ensures) ∙ c .before .before .before .before .before .before .before .before .before .before .before .before .before .before .enum-told .given .1) in
+    let q = sym (c .before .before .before .before .before .before .before .before .before .before .before .before .before .read .ensures) ∙ c .before .before .before .before .before .before .before .before .before .before .before .reading .given .1 in
+    c .before .before .before .before .before .before .answer-to .ensures
+    ∙ sym (handled-open (a .k) l (a .flash .now) (a .packet .now) (a .reply .now) e ∙ ap (λ (r : Reading). handleInBytes (byReading r (a .k) (decode l) (a .flash .now) (a .packet .now) (a .reply .now))) q)
 
 same-length-4 : tie.Need-same-length-4
 same-length-4 c = search needs
@@ -67,37 +94,55 @@ same-length-4 c = search needs
 same-length-5 : tie.Need-same-length-5
 same-length-5 c = search needs
 
-returns-4 : tie.Need-returns-4
-returns-4 c = let a = c .before .before .before .before .before .before .before .before .before .before .before .before .before .before .before .before .before .before .before .args in let e = handled-by (a .k) (a .d) (a .flash .now) (a .packet .now) (a .reply .now) (via-not-false _ _ (c .before .before .before .before .before .before .before .before .before .before .before .before .before .before .before .is-sound .ensures) (c .before .before .before .before .before .before .before .before .before .before .before .before .before .before .if1 .left)) (c .before .before .before .before .before .before .before .before .before .before .before .before .if2 .left) (c .before .before .before .before .before .before .before .before .before .before .before .if3 .left) in let q = sym (c .before .before .before .before .before .before .before .before .before .before .read .ensures) ∙ c .before .before .before .before .before .before .before .before .reading .given .1 in c .before .before .before .before .answer-to .ensures ∙ sym (e ∙ ap (λ (r : Reading). byReading r (a .k) (a .d) (a .flash .now) (a .packet .now) (a .reply .now)) q)
+returns-2 : tie.Need-returns-2
+returns-2 c = 
+    let g = c .before .before .before .before .before .before .before .before .before .before in
+    let a = g .before .before .before .before .before .before .before .before .args in
+    let l = a .rec .now in
+    let b : Bytes l = λ i. omega (arith, g .before .before .before .before .before .before .before .slice-known .given i) in
+    let e : gated (soundFor (a .k) l) (lent (a .k) (a .flash .now)) (leb 8 (length (a .reply .now))) true ≡ Taken = rw (g .before .before .is-sound .ensures) at (sym (g .gate .ensures) ∙ c .before .before .before .before .before .before .before .before .enum-told .given .1) in
+    let q = sym (c .before .before .before .before .before .before .before .read .ensures) ∙ c .before .before .before .before .before .reading2 .given .1 in
+    rw (c .before .before .refuse .ensures .0, c .before .before .refuse .ensures .1)
+    (refused-in (a .k) l (opens _ _ _ _ e .whole) b _ (a .flash .now) (a .reply .now)
+    ∙ sym (handled-open (a .k) l (a .flash .now) (a .packet .now) (a .reply .now) e ∙ ap (λ (r : Reading). handleInBytes (byReading r (a .k) (decode l) (a .flash .now) (a .packet .now) (a .reply .now))) q))
 
 same-length-6 : tie.Need-same-length-6
 same-length-6 c = search needs
 
-returns-5 : tie.Need-returns-5
-returns-5 c = let a = c .before .before .before .before .before .before .before .before .before .before .before .before .before .before .before .before .args in let e = handled-by (a .k) (a .d) (a .flash .now) (a .packet .now) (a .reply .now) (via-not-false _ _ (c .before .before .before .before .before .before .before .before .before .before .before .before .is-sound .ensures) (c .before .before .before .before .before .before .before .before .before .before .before .if1 .left)) (c .before .before .before .before .before .before .before .before .before .if2 .left) (c .before .before .before .before .before .before .before .before .if3 .left) in let q = sym (c .before .before .before .before .before .before .before .read .ensures) ∙ c .before .before .before .before .before .reading2 .given .1 in rw (c .before .before .refuse4 .ensures .0, c .before .before .refuse4 .ensures .1) (sym (e ∙ ap (λ (r : Reading). byReading r (a .k) (a .d) (a .flash .now) (a .packet .now) (a .reply .now)) q))
+same-length-7 : tie.Need-same-length-7
+same-length-7 c = search needs
+
+returns-3 : tie.Need-returns-3
+returns-3 c = 
+    let g = c .before .before .before .before .before .before .before in
+    let a = g .before .before .before .before .before .before .before .before .args in
+    let l = a .rec .now in
+    let b : Bytes l = λ i. omega (arith, g .before .before .before .before .before .before .before .slice-known .given i) in
+    let e : gated (soundFor (a .k) l) (lent (a .k) (a .flash .now)) (leb 8 (length (a .reply .now))) true ≡ Refused _ = rw (g .before .before .is-sound .ensures) at (sym (g .gate .ensures) ∙ c .before .before .before .before .before .verdict .given .1) in
+    rw (c .before .before .refuse2 .ensures .0, c .before .before .refuse2 .ensures .1) (handled-shut (a .k) l (a .flash .now) (a .packet .now) (a .reply .now) b _ e)
 
 pub handle-as-spec : {M : Type 1} → statement M
 handle-as-spec =
     tie.close
     (tie.spec
     is-sound-requires
-    refuse-requires
-    same-length
-    returns
-    mul-if2
-    refuse-requires-2
-    same-length-2
-    returns-2
-    refuse-requires-3
-    same-length-3
-    returns-3
+    mul-gate
+    gate-requires
+    enum-told
     read-requires
     enum-known-reading
     answer-to-requires
     enum-known-reading-2
-    refuse-requires-4
+    refuse-requires
+    enum-known-verdict
+    refuse-requires-2
+    same-length
+    same-length-2
+    same-length-3
+    returns
     same-length-4
     same-length-5
-    returns-4
+    returns-2
     same-length-6
-    returns-5)
+    same-length-7
+    returns-3)

@@ -7,13 +7,17 @@ first-kind-requires : tie.Need-first-kind-requires
 first-kind-requires c κs = search needs
 
 work-as-requires : tie.Need-work-as-requires
-work-as-requires c κs = rw (c .before .first-kind .ensures) first-sensible
+work-as-requires c κs = rw (c .before .before .before .first-kind .ensures) first-sensible
 
 same-length : tie.Need-same-length
 same-length c = search needs
 
+same-length-2 : tie.Need-same-length-2
+same-length-2 c = search needs
+
 returns : tie.Need-returns
-returns c = rw (← c .before .before .before .before .first-kind .ensures) (c .before .before .work-as .ensures)
+returns c = rw (c .before .before .before .before .before .before .before .before .first-kind .ensures) at (c .before .before .before .before .work-as .ensures)
 
 pub work-spec : {M : Type 1} → statement M
-work-spec = tie.close (tie.spec first-kind-requires work-as-requires same-length returns)
+work-spec =
+    tie.close (tie.spec first-kind-requires work-as-requires same-length same-length-2 returns)

@@ -1,8 +1,18 @@
-use Rattle.basics.specs.Choice.{via, via-not-false}
+use mathlib.Core.Path.{_≡_, sym, _∙_}
+use mathlib.Core.Bool.{true, false}
 use native.Mathlib.Omega.{arith}
+use lib.ListN.{length}
+use borrow.Author.Tests.{eqb-true}
+use Rattle.device.specs.Layout.{headIn, decode, Bytes}
+use Rattle.device.specs.Modes.{hasJob}
+use Rattle.soundness.proofs.Record.{record-length}
+use Rattle.services.specs.declared.Verdict.the-variants.{Taken, Refused}
+use Rattle.services.specs.Calls.{lent, gated}
+use Rattle.services.specs.InPlace.{soundFor}
+use Rattle.services.proofs.Gated.{opens}
+use Rattle.services.proofs.Outcomes.{unchanged, worked-open, worked-shut}
 use Rattle.services.proofs.Laws.{few-bytes}
-use Rattle.services.specs.Calls.{worked}
-use Rattle.basics.specs.Choice.{cases}
+use Rattle.basics.specs.Choice.{pick, via}
 use borrow.Author.Needs.{needs}
 use Rattle.services.proofs.work_as.Statement.{statement}
 use Rattle.services.proofs.work_as.Tie as tie
@@ -10,56 +20,95 @@ use Rattle.services.proofs.work_as.Tie as tie
 is-sound-requires : tie.Need-is-sound-requires
 is-sound-requires c κs = search needs
 
-idle-work-requires : tie.Need-idle-work-requires
-idle-work-requires c κs = search needs
+mul-gate : tie.Need-mul-gate
+mul-gate c = record { fits = omega (arith, few-bytes _ (c .before .before .before .before .before .pre)) }
 
-returns : tie.Need-returns
-unfolding worked
-returns c = rw (c .idle-work .ensures) (search cases)
+gate-requires : tie.Need-gate-requires
+gate-requires c κs = search needs
 
-mul-if2 : tie.Need-mul-if2
-mul-if2 c = record { fits = omega (arith, few-bytes _ (c .before .before .before .before .pre)) }
-
-idle-work-requires-2 : tie.Need-idle-work-requires-2
-idle-work-requires-2 c κs = search needs
-
-returns-2 : tie.Need-returns-2
-unfolding worked
-returns-2 c = rw (c .idle-work2 .ensures) (search cases)
+enum-told : tie.Need-enum-told
+enum-told c = search needs
 
 has-job-requires : tie.Need-has-job-requires
-has-job-requires c κs = search needs
+has-job-requires c κs = 
+    let g = c .before .before .before in
+    let a = g .before .before .before .before .before .before .args in
+    let l = a .rec .now in
+    let b : Bytes l = λ i. omega (arith, g .before .before .before .before .before .slice-known .given i) in
+    let e : gated (soundFor (a .k) l) (lent (a .k) (a .flash .now)) true true ≡ Taken = rw (g .before .before .is-sound .ensures) at (sym (g .gate .ensures) ∙ c .before .enum-told .given .1) in
+    record-length _ _ _ (opens _ _ _ _ e .whole)
 
 work-on-requires : tie.Need-work-on-requires
-work-on-requires c κs = (c .before .before .before .before .before .before .before .before .before .pre, record { record-sound = via-not-false _ _ (c .before .before .before .before .before .before .before .is-sound .ensures) (c .before .before .before .before .before .before .if1 .left); lent-flash = c .before .before .before .before .if2 .left; job = via _ _ _ (c .before .before .has-job .ensures) (c .before .if3 .taken) })
+unfolding decode headIn
+work-on-requires c κs = 
+    let g = c .before .before .before .before .before .before .before .before in
+    let a = g .before .before .before .before .before .before .args in
+    let l = a .rec .now in
+    let b : Bytes l = λ i. omega (arith, g .before .before .before .before .before .slice-known .given i) in
+    let e : gated (soundFor (a .k) l) (lent (a .k) (a .flash .now)) true true ≡ Taken = rw (g .before .before .is-sound .ensures) at (sym (g .gate .ensures) ∙ c .before .before .before .before .before .before .enum-told .given .1) in
+    let o = opens _ _ _ _ e in (g .before .before .before .before .before .before .pre, ((o .whole, eqb-true _ _ (o .length)), via _ _ _ (c .before .before .before .before .has-job .ensures) (c .before .before .before .if1 .taken)))
+
+enum-known-verdict : tie.Need-enum-known-verdict
+enum-known-verdict c = search needs
 
 same-length : tie.Need-same-length
 same-length c = search needs
 
+same-length-2 : tie.Need-same-length-2
+same-length-2 c = search needs
+
+returns : tie.Need-returns
+unfolding decode headIn pick
+returns c = 
+    let g = c .before .before .before .before .before .before .before .before .before .before .before .before .before in
+    let a = g .before .before .before .before .before .before .args in
+    let l = a .rec .now in
+    let b : Bytes l = λ i. omega (arith, g .before .before .before .before .before .slice-known .given i) in
+    let e : gated (soundFor (a .k) l) (lent (a .k) (a .flash .now)) true true ≡ Taken = rw (g .before .before .is-sound .ensures) at (sym (g .gate .ensures) ∙ c .before .before .before .before .before .before .before .before .before .before .before .enum-told .given .1) in
+    let h : hasJob (decode l .head .mode) ≡ true = via _ _ _ (c .before .before .before .before .before .before .before .before .before .has-job .ensures) (c .before .before .before .before .before .before .before .before .if1 .taken) in
+    c .before .before .before .before .work-on .ensures ∙ sym (worked-open (a .k) l (a .flash .now) e ∙ rw h)
+
+same-length-3 : tie.Need-same-length-3
+same-length-3 c = search needs
+
+returns-2 : tie.Need-returns-2
+unfolding decode headIn pick
+returns-2 c = 
+    let g = c .before .before .before .before .before in
+    let a = g .before .before .before .before .before .before .args in
+    let l = a .rec .now in
+    let b : Bytes l = λ i. omega (arith, g .before .before .before .before .before .slice-known .given i) in
+    let e : gated (soundFor (a .k) l) (lent (a .k) (a .flash .now)) true true ≡ Taken = rw (g .before .before .is-sound .ensures) at (sym (g .gate .ensures) ∙ c .before .before .before .enum-told .given .1) in
+    let h : hasJob (decode l .head .mode) ≡ false = via _ _ _ (c .before .has-job .ensures) (c .if1 .left) in
+    rw (worked-open (a .k) l (a .flash .now) e, h, unchanged (a .k) l (opens _ _ _ _ e .whole) b)
+
+same-length-4 : tie.Need-same-length-4
+same-length-4 c = search needs
+
 returns-3 : tie.Need-returns-3
-unfolding worked
-returns-3 c = rw (c .before .before .work-on .ensures) (search cases)
-
-idle-work-requires-3 : tie.Need-idle-work-requires-3
-idle-work-requires-3 c κs = search needs
-
-returns-4 : tie.Need-returns-4
-unfolding worked
-returns-4 c = rw (c .idle-work3 .ensures) (search cases)
+returns-3 c = 
+    let g = c .before .before .before in
+    let a = g .before .before .before .before .before .before .args in
+    let l = a .rec .now in
+    let b : Bytes l = λ i. omega (arith, g .before .before .before .before .before .slice-known .given i) in
+    let e : gated (soundFor (a .k) l) (lent (a .k) (a .flash .now)) true true ≡ Refused _ = rw (g .before .before .is-sound .ensures) at (sym (g .gate .ensures) ∙ c .before .verdict .given .1) in
+    worked-shut (a .k) l (a .flash .now) b _ e
 
 pub work-as-spec : {M : Type 1} → statement M
 work-as-spec =
     tie.close
     (tie.spec
     is-sound-requires
-    idle-work-requires
-    returns
-    mul-if2
-    idle-work-requires-2
-    returns-2
+    mul-gate
+    gate-requires
+    enum-told
     has-job-requires
     work-on-requires
+    enum-known-verdict
     same-length
-    returns-3
-    idle-work-requires-3
-    returns-4)
+    same-length-2
+    returns
+    same-length-3
+    returns-2
+    same-length-4
+    returns-3)
