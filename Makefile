@@ -11,6 +11,7 @@ VERSION := $(shell sed -n 's/^.define GRZELOTKA_VERSION "\(.*\)"/\1/p' include/g
 # what the library is made of; folders are among it, so that a file taken away is seen too
 SOURCES := crates.txt $(shell find crates -name must-fail -prune -o -print)
 EXAMPLES := $(wildcard examples/*.c)
+HEADERS := include/grzelotka.h include/grzelotka_record.h
 # The library is x86-64 code. Where the machine is another, or has no C compiler, the kit's own tools link and run it; `make CC=` has them do so
 # anywhere.
 COMPILER := $(if $(and $(filter x86_64,$(shell uname -m)),$(shell command -v $(CC) 2>/dev/null)),$(CC),bin/cc86)
@@ -40,7 +41,7 @@ test:
 demo: $(BUILD)/demo
 	$(strip $(BUILD)/demo $(IMAGE))
 
-$(BUILD)/demo: $(EXAMPLES) $(wildcard examples/*.h) include/grzelotka.h $(LIBRARY) $(BUILD)/compiler
+$(BUILD)/demo: $(EXAMPLES) $(wildcard examples/*.h) $(HEADERS) $(LIBRARY) $(BUILD)/compiler
 	$(COMPILER) $(CFLAGS) -std=c11 -Iinclude -o $@ $(EXAMPLES) $(LIBRARY)
 
 # the words that compile: another compiler, another demo
@@ -60,13 +61,14 @@ put = $(DESTDIR)$(call installed,$(1))
 install: $(LIBRARY)
 	mkdir -p $(call put,$(LIBDIR))/pkgconfig $(call put,$(INCLUDEDIR))
 	cp $(LIBRARY) $(call put,$(LIBDIR))/libgrzelotka.a
-	cp include/grzelotka.h $(call put,$(INCLUDEDIR))/grzelotka.h
+	cp $(HEADERS) $(call put,$(INCLUDEDIR))
 	printf '%s\n' 'prefix=$(call installed,$(PREFIX))' 'libdir=$(call installed,$(LIBDIR))' 'includedir=$(call installed,$(INCLUDEDIR))' '' \
 	    'Name: grzelotka' 'Description: stand-in for the firmware upgrade services of the STM32WB' 'Version: $(VERSION)' \
 	    'Cflags: -I$${includedir}' 'Libs: -L$${libdir} -lgrzelotka' >$(call put,$(LIBDIR))/pkgconfig/grzelotka.pc
 
 uninstall:
-	rm -f $(call put,$(LIBDIR))/libgrzelotka.a $(call put,$(INCLUDEDIR))/grzelotka.h $(call put,$(LIBDIR))/pkgconfig/grzelotka.pc
+	rm -f $(call put,$(LIBDIR))/libgrzelotka.a $(addprefix $(call put,$(INCLUDEDIR))/,$(notdir $(HEADERS))) \
+	    $(call put,$(LIBDIR))/pkgconfig/grzelotka.pc
 
 clean:
 	rm -rf $(BUILD)
@@ -78,6 +80,6 @@ help:
 	@echo 'make demo IMAGE=FILE       the same with this image as the new stack'
 	@echo 'make test                  the gate: every proof, every must-fail edit, every test'
 	@echo 'make bench                 the library beside plain C'
-	@echo 'make install PREFIX=DIR    library, header and pkg-config file; DESTDIR, LIBDIR and INCLUDEDIR are heeded; make uninstall'
+	@echo 'make install PREFIX=DIR    library, headers and pkg-config file; DESTDIR, LIBDIR and INCLUDEDIR are heeded; make uninstall'
 	@echo 'make clean                 removes $(BUILD); what is proved stays in target'
 	@echo 'make .. CC=COMPILER        another C compiler for the demo; with CC= it is the tools of the kit (bin/cc86)'

@@ -1,14 +1,12 @@
 #include "bench.h"
 #include "bytes.h"
 #include "grzelotka.h"
+#include "grzelotka_record.h"
 #include "transport.h"
 #include "updater.h"
 #include <string.h>
 
 enum { FLASH_START = 0x08000000, APPLICATION = 40 };
-
-/* where the record's bytes are (docs/RECORD.md), and the mode from which on a job is under way */
-enum { MODE_AT = 1, VERSION_AT = 10, BOUNDARY_AT = 18, UPGRADING = 2 };
 
 /* the one device, with its buffers, what is in store for it, and what it did */
 static struct {
@@ -33,15 +31,15 @@ static struct {
 /* ---- the device */
 
 uint32_t boundary_of(const struct device *device) {
-    return word(device->record + BOUNDARY_AT);
+    return word(device->record + GRZELOTKA_BOUNDARY);
 }
 
 uint32_t version_of(const struct device *device) {
-    return word(device->record + VERSION_AT);
+    return word(device->record + GRZELOTKA_STACK_VERSION);
 }
 
 bool job_under_way(const struct device *device) {
-    return device->record[MODE_AT] >= UPGRADING;
+    return device->record[GRZELOTKA_MODE] >= GRZELOTKA_UPGRADE;
 }
 
 void bench_begin(void) {

@@ -2,11 +2,12 @@
 #ifndef BENCH_H
 #define BENCH_H
 
+#include "grzelotka_record.h"
 #include <stdbool.h>
 #include <stddef.h>
 #include <stdint.h>
 
-enum { SECTOR = 4096, COUNT = 244, FLASH = SECTOR * COUNT, RECORD = 4853, MAILBOX = 64 };
+enum { SECTOR = 4096, COUNT = 244, FLASH = SECTOR * COUNT, RECORD = GRZELOTKA_RECORD_BYTES, MAILBOX = 64 };
 
 /* all that a device is */
 struct device {

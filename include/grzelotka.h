@@ -1,4 +1,5 @@
-/* Grzelotka: the stand-in for FUS, as a C or C++ host calls it. docs/HOST.md shows a host, docs/RECORD.md the record's bytes.
+/* Grzelotka: the stand-in for FUS, as a C or C++ host calls it. docs/HOST.md shows a host, docs/RECORD.md the record's bytes, which
+   grzelotka_record.h names.
 
    Each `uint8_t` answer is 0 (taken) or the number of the refusal, the lowest that applies:
     1 the record is of another length, or its bytes are no sound device's    6 the length byte differs from the bytes after it

@@ -3,6 +3,7 @@
      bench stack   a line for each case: the bytes of stack that it takes in both, beyond the return address of the call
    It includes no header of the machine's, since the kit's clang has none. */
 #include "grzelotka.h"
+#include "grzelotka_record.h"
 #include "plain.h"
 #include <stdbool.h>
 #include <string.h>
@@ -14,7 +15,8 @@ int getcontext(void *);
 int swapcontext(void *, const void *);
 void makecontext(void *, void (*)(void), int, ...);
 
-enum { SECTOR = 4096, COUNT = 244, FLASH = SECTOR * COUNT, RECORD = 4853, MOST = 243 * 4096, HALF = 121, ROUNDS = 5, TURNS = 8 };
+enum { SECTOR = 4096, COUNT = 244, FLASH = SECTOR * COUNT, RECORD = GRZELOTKA_RECORD_BYTES };
+enum { MOST = 243 * 4096, HALF = 121, ROUNDS = 5, TURNS = 8 };
 
 struct calls {
     uint8_t (*fresh)(uint8_t *, size_t);
@@ -158,8 +160,8 @@ static void search(const struct calls *on) { send(on, 0x54); }
 /* the job is taken back, so that it can be accepted again */
 static void accept(const struct calls *on) {
     send(on, 0x54);
-    record[1] = 1;
-    memset(record + 22, 0, 16);
+    record[GRZELOTKA_MODE] = GRZELOTKA_IDLE;
+    memset(record + GRZELOTKA_IMAGE_SECTOR, 0, GRZELOTKA_FLOOR - GRZELOTKA_IMAGE_SECTOR);
 }
 static void restart(const struct calls *on) { answers += on->restart(record, RECORD, reply, sizeof reply); }
 static void work(const struct calls *on) {

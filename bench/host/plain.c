@@ -1,19 +1,13 @@
 /* The stand-in in plain C, written from paper 01: the same calls with the same checks on the same record bytes (docs/RECORD.md), in place.
    bench/host/run measures the archive beside it, and tests/host/bite seeds bugs into it to see that the tests find them. */
 #include "plain.h"
+#include "grzelotka_record.h"
 #include <stdbool.h>
 #include <string.h>
 
-enum { SECTOR = 4096, COUNT = 244, FLASH = COUNT * SECTOR, MOST_KEYS = 100, SLOTS = 101, SLOT = 44, AUTH = 64, HEADER = 84 };
+enum { SECTOR = 4096, COUNT = 244, FLASH = COUNT * SECTOR, MOST_KEYS = GRZELOTKA_SLOTS - 1, HEADER = 84 };
 #define NO_VERSION 0xFFFFFFFFu
 
-/* where the record's bytes are */
-enum {
-    PRESENT = 0, MODE = 1, KEYS = 2, AUTH_PRESENT = 3, AUTH_LOCK = 4, ROLLBACK = 5, LOADED = 6, ASKED = 7, ERROR = 8, MADE = 9,
-    VERSION = 10, SECTORS = 14, BOUNDARY = 18, JOB_P = 22, JOB_SIZE = 26, JOB_VERSION = 30, RECORDED = 34, FLOOR = 38,
-    LOCKS = 42, AUTH_KEY = 143, TYPES = 207, SIZES = 308, KEY_BYTES = 409, RECORD = 4853
-};
-enum { STACK_RUNS, IDLE, UPGRADE, DELETE };
 enum { SIMPLE = 1, MASTER = 2, ENCRYPTED = 3 };
 enum {
     GET_STATE = 0xFC52, FW_UPGRADE = 0xFC54, FW_DELETE = 0xFC55, UPDATE_AUTH_KEY = 0xFC56, LOCK_AUTH_KEY = 0xFC57, STORE_USR_KEY = 0xFC58,
@@ -54,15 +48,15 @@ static bool room_for(uint32_t p, uint32_t size, uint32_t boundary) {
 
 /* two loops with no way out, which clang turns into vectors: four to seven times as fast as leaving at the first bad slot */
 static bool slots_sound(const uint8_t *r) {
-    const uint8_t *locks = r + LOCKS, *types = r + TYPES, *sizes = r + SIZES;
-    unsigned count = r[KEYS];
+    const uint8_t *locks = r + GRZELOTKA_LOCKS, *types = r + GRZELOTKA_TYPES, *sizes = r + GRZELOTKA_SIZES;
+    unsigned count = r[GRZELOTKA_KEYS_STORED];
     uint8_t bad = locks[0];
     for (unsigned i = 1; i <= count; i++) {
         uint8_t simple = (types[i] == SIMPLE) & ((sizes[i] == 16) | (sizes[i] == 32));
         uint8_t encrypted = (types[i] == ENCRYPTED) & ((sizes[i] == 28) | (sizes[i] == 44));
         bad |= !(simple | encrypted) | (locks[i] > 1);
     }
-    for (unsigned i = count + 1; i < SLOTS; i++)
+    for (unsigned i = count + 1; i < GRZELOTKA_SLOTS; i++)
         bad |= types[i] | sizes[i] | locks[i];
     return !bad && (types[0] == 0 ? sizes[0] == 0 : types[0] == MASTER && key_lawful(MASTER, sizes[0]));
 }
@@ -73,7 +67,8 @@ struct plan {
 };
 
 static struct plan plan_of(const uint8_t *r) {
-    struct plan j = {.p = word(r + JOB_P), .b = sectors_of(word(r + JOB_SIZE)), .boundary = word(r + BOUNDARY)};
+    struct plan j = {.p = word(r + GRZELOTKA_IMAGE_SECTOR), .b = sectors_of(word(r + GRZELOTKA_IMAGE_SIZE))};
+    j.boundary = word(r + GRZELOTKA_BOUNDARY);
     j.q = COUNT - j.b;
     j.image_cleared = j.p + j.b < j.q ? j.b : j.q - j.p;
     j.cleared = j.image_cleared + (j.boundary < j.q ? j.q - j.boundary : 0);
@@ -81,19 +76,20 @@ static struct plan plan_of(const uint8_t *r) {
 }
 
 static bool job_sound(const uint8_t *r) {
-    uint32_t p = word(r + JOB_P), size = word(r + JOB_SIZE), version = word(r + JOB_VERSION), recorded = word(r + RECORDED);
-    if (r[MODE] == UPGRADE) {
-        if (!size_lawful(size) || version == NO_VERSION || !room_for(p, size, word(r + BOUNDARY)))
+    uint32_t p = word(r + GRZELOTKA_IMAGE_SECTOR), size = word(r + GRZELOTKA_IMAGE_SIZE), version = word(r + GRZELOTKA_IMAGE_VERSION);
+    uint32_t recorded = word(r + GRZELOTKA_SECTORS_RECORDED);
+    if (r[GRZELOTKA_MODE] == GRZELOTKA_UPGRADE) {
+        if (!size_lawful(size) || version == NO_VERSION || !room_for(p, size, word(r + GRZELOTKA_BOUNDARY)))
             return false;
-    } else if (!r[PRESENT] || p || size || version) {
+    } else if (!r[GRZELOTKA_STACK_PRESENT] || p || size || version) {
         return false;
     }
     struct plan j = plan_of(r);
     if (recorded < j.b)
-        return r[MADE] <= 2;
+        return r[GRZELOTKA_STORES_MADE] <= 2;
     if (recorded < j.b + j.cleared)
-        return r[MADE] <= 1;
-    return recorded == j.b + j.cleared && r[MADE] == 0;
+        return r[GRZELOTKA_STORES_MADE] <= 1;
+    return recorded == j.b + j.cleared && r[GRZELOTKA_STORES_MADE] == 0;
 }
 
 static bool error_sound(uint8_t e) {
@@ -101,33 +97,34 @@ static bool error_sound(uint8_t e) {
 }
 
 static bool head_sound(const uint8_t *r) {
-    uint32_t boundary = word(r + BOUNDARY), version = word(r + VERSION);
-    for (int i = 0; i < 3; i++)
-        if (r[AUTH_PRESENT + i] > 1)
-            return false;
-    if (r[PRESENT] > 1 || r[ASKED] > 1 || r[MODE] > DELETE)
+    uint32_t boundary = word(r + GRZELOTKA_BOUNDARY), version = word(r + GRZELOTKA_STACK_VERSION);
+    if (r[GRZELOTKA_AUTH_KEY_PRESENT] > 1 || r[GRZELOTKA_AUTH_KEY_LOCKED] > 1 || r[GRZELOTKA_ANTIROLLBACK] > 1)
         return false;
-    if (boundary < 1 || boundary > COUNT || word(r + SECTORS) != COUNT - boundary)
+    if (r[GRZELOTKA_STACK_PRESENT] > 1 || r[GRZELOTKA_STATE_REQUESTED] > 1 || r[GRZELOTKA_MODE] > GRZELOTKA_DELETE)
         return false;
-    if (r[PRESENT] != (boundary != COUNT) || r[PRESENT] != (version != NO_VERSION))
+    if (boundary < 1 || boundary > COUNT || word(r + GRZELOTKA_STACK_SECTORS) != COUNT - boundary)
         return false;
-    if (r[AUTH_LOCK] > r[AUTH_PRESENT] || (r[ASKED] && r[MODE] != STACK_RUNS) || (!r[ROLLBACK] && word(r + FLOOR)))
+    if (r[GRZELOTKA_STACK_PRESENT] != (boundary != COUNT) || r[GRZELOTKA_STACK_PRESENT] != (version != NO_VERSION))
         return false;
-    if (r[ERROR] && (r[MODE] != IDLE || !error_sound(r[ERROR])))
+    if (r[GRZELOTKA_AUTH_KEY_LOCKED] > r[GRZELOTKA_AUTH_KEY_PRESENT] ||
+        (r[GRZELOTKA_STATE_REQUESTED] && r[GRZELOTKA_MODE] != GRZELOTKA_STACK_RUNS) || (!r[GRZELOTKA_ANTIROLLBACK] && word(r + GRZELOTKA_FLOOR)))
         return false;
-    if (r[KEYS] > MOST_KEYS || r[LOADED] > r[KEYS])
+    if (r[GRZELOTKA_PENDING_ERROR] && (r[GRZELOTKA_MODE] != GRZELOTKA_IDLE || !error_sound(r[GRZELOTKA_PENDING_ERROR])))
         return false;
-    if (r[MODE] == UPGRADE || r[MODE] == DELETE)
+    if (r[GRZELOTKA_KEYS_STORED] > MOST_KEYS || r[GRZELOTKA_LOADED_KEY] > r[GRZELOTKA_KEYS_STORED])
+        return false;
+    if (r[GRZELOTKA_MODE] == GRZELOTKA_UPGRADE || r[GRZELOTKA_MODE] == GRZELOTKA_DELETE)
         return job_sound(r);
-    if (r[MADE] || word(r + JOB_P) || word(r + JOB_SIZE) || word(r + JOB_VERSION) || word(r + RECORDED))
+    if (r[GRZELOTKA_STORES_MADE] || word(r + GRZELOTKA_IMAGE_SECTOR) || word(r + GRZELOTKA_IMAGE_SIZE) || word(r + GRZELOTKA_IMAGE_VERSION) ||
+        word(r + GRZELOTKA_SECTORS_RECORDED))
         return false;
-    return r[MODE] == IDLE || r[PRESENT];
+    return r[GRZELOTKA_MODE] == GRZELOTKA_IDLE || r[GRZELOTKA_STACK_PRESENT];
 }
 
 static bool sound(const uint8_t *r, size_t length) {
-    if (length != RECORD || !head_sound(r) || !slots_sound(r))
+    if (length != GRZELOTKA_RECORD_BYTES || !head_sound(r) || !slots_sound(r))
         return false;
-    return r[TYPES + r[LOADED]] != ENCRYPTED || r[TYPES] == MASTER;
+    return r[GRZELOTKA_TYPES + r[GRZELOTKA_LOADED_KEY]] != ENCRYPTED || r[GRZELOTKA_TYPES] == MASTER;
 }
 
 /* ---- packets */
@@ -141,7 +138,7 @@ static uint8_t refused(uint8_t number, uint8_t *reply, size_t length) {
 static bool payload_lawful(uint16_t opcode, uint8_t length) {
     switch (opcode) {
     case UPDATE_AUTH_KEY:
-        return length == 1 + AUTH;
+        return length == 1 + GRZELOTKA_AUTH_KEY_BYTES;
     case STORE_USR_KEY:
         return length >= 2;
     case LOAD_USR_KEY:
@@ -171,13 +168,13 @@ static uint8_t read_packet(const uint8_t *packet, size_t length, uint16_t *opcod
         return 8;
     if (*opcode == STORE_USR_KEY && packet[5] != packet[3] - 2)
         return 9;
-    if (*opcode == UPDATE_AUTH_KEY && packet[4] != AUTH)
+    if (*opcode == UPDATE_AUTH_KEY && packet[4] != GRZELOTKA_AUTH_KEY_BYTES)
         return 9;
     return 0;
 }
 
 static void put_event(const uint8_t *r, uint8_t *event, size_t length) {
-    const uint8_t bytes[6] = {0x12, 0xFF, 0x03, 0x00, 0x92, r[MODE] == STACK_RUNS ? 0 : 1};
+    const uint8_t bytes[6] = {0x12, 0xFF, 0x03, 0x00, 0x92, r[GRZELOTKA_MODE] == GRZELOTKA_STACK_RUNS ? 0 : 1};
     memcpy(event, bytes, 6);
     memset(event + 6, 0, length - 6);
 }
@@ -185,8 +182,8 @@ static void put_event(const uint8_t *r, uint8_t *event, size_t length) {
 /* ---- commands */
 
 static void lose(uint8_t *r) {
-    r[LOADED] = r[ASKED] = r[ERROR] = r[MADE] = 0;
-    memset(r + LOCKS, 0, SLOTS);
+    r[GRZELOTKA_LOADED_KEY] = r[GRZELOTKA_STATE_REQUESTED] = r[GRZELOTKA_PENDING_ERROR] = r[GRZELOTKA_STORES_MADE] = 0;
+    memset(r + GRZELOTKA_LOCKS, 0, GRZELOTKA_SLOTS);
 }
 
 static uint32_t sum(const uint8_t *body, size_t length) {
@@ -218,7 +215,7 @@ static bool header_good(const uint8_t *image) {
 
 /* FW_UPGRADE: 0 and the job is recorded, or E */
 static uint8_t upgrade(uint8_t *r, uint8_t *flash) {
-    uint32_t boundary = word(r + BOUNDARY), p = search(flash, boundary);
+    uint32_t boundary = word(r + GRZELOTKA_BOUNDARY), p = search(flash, boundary);
     if (p == COUNT)
         return 0x01;
     const uint8_t *image = flash + (size_t)p * SECTOR;
@@ -235,14 +232,14 @@ static uint8_t upgrade(uint8_t *r, uint8_t *flash) {
     }
     if (image[6] == 0)
         return 0x03;
-    if (r[AUTH_PRESENT] && (image[7] == 0 || memcmp(image + 20, r + AUTH_KEY, AUTH) != 0))
+    if (r[GRZELOTKA_AUTH_KEY_PRESENT] && (image[7] == 0 || memcmp(image + 20, r + GRZELOTKA_AUTH_KEY, GRZELOTKA_AUTH_KEY_BYTES) != 0))
         return 0x03;
-    if (r[ROLLBACK] && version < word(r + FLOOR))
+    if (r[GRZELOTKA_ANTIROLLBACK] && version < word(r + GRZELOTKA_FLOOR))
         return 0x11;
-    r[MODE] = UPGRADE;
-    put_word(r + JOB_P, p);
-    put_word(r + JOB_SIZE, size);
-    put_word(r + JOB_VERSION, version);
+    r[GRZELOTKA_MODE] = GRZELOTKA_UPGRADE;
+    put_word(r + GRZELOTKA_IMAGE_SECTOR, p);
+    put_word(r + GRZELOTKA_IMAGE_SIZE, size);
+    put_word(r + GRZELOTKA_IMAGE_VERSION, version);
     return 0;
 }
 
@@ -250,33 +247,35 @@ static uint8_t upgrade(uint8_t *r, uint8_t *flash) {
 static uint8_t store_key(uint8_t *r, uint8_t type, const uint8_t *key, uint8_t size) {
     if (!key_lawful(type, size))
         return 0xFF;
-    if (type == MASTER ? r[TYPES] != 0 : r[KEYS] == MOST_KEYS)
+    if (type == MASTER ? r[GRZELOTKA_TYPES] != 0 : r[GRZELOTKA_KEYS_STORED] == MOST_KEYS)
         return 0xFF;
-    uint8_t slot = type == MASTER ? 0 : ++r[KEYS];
-    r[TYPES + slot] = type;
-    r[SIZES + slot] = size;
-    memcpy(r + KEY_BYTES + slot * SLOT, key, size);
+    uint8_t slot = type == MASTER ? 0 : ++r[GRZELOTKA_KEYS_STORED];
+    r[GRZELOTKA_TYPES + slot] = type;
+    r[GRZELOTKA_SIZES + slot] = size;
+    memcpy(r + GRZELOTKA_KEY_BYTES + slot * GRZELOTKA_KEY_BYTES_EACH, key, size);
     return slot;
 }
 
 static bool load_key(uint8_t *r, uint8_t index) {
-    if (index == 0 || index > r[KEYS] || r[LOCKS + index] || (r[TYPES + index] == ENCRYPTED && r[TYPES] != MASTER))
+    if (index == 0 || index > r[GRZELOTKA_KEYS_STORED] || r[GRZELOTKA_LOCKS + index])
         return false;
-    r[LOADED] = index;
+    if (r[GRZELOTKA_TYPES + index] == ENCRYPTED && r[GRZELOTKA_TYPES] != MASTER)
+        return false;
+    r[GRZELOTKA_LOADED_KEY] = index;
     return true;
 }
 
 static bool lock_key(uint8_t *r, uint8_t index) {
-    if (index == 0 || index > r[KEYS])
+    if (index == 0 || index > r[GRZELOTKA_KEYS_STORED])
         return false;
-    r[LOCKS + index] = 1;
+    r[GRZELOTKA_LOCKS + index] = 1;
     return true;
 }
 
 static bool unload_key(uint8_t *r, uint8_t index) {
-    if (index == 0 || index != r[LOADED])
+    if (index == 0 || index != r[GRZELOTKA_LOADED_KEY])
         return false;
-    r[LOADED] = 0;
+    r[GRZELOTKA_LOADED_KEY] = 0;
     return true;
 }
 
@@ -301,29 +300,29 @@ static uint8_t idle(uint8_t *r, uint8_t *flash, uint16_t opcode, const uint8_t *
     case FW_UPGRADE:
         return upgrade(r, flash);
     case FW_DELETE:
-        if (!r[PRESENT])
+        if (!r[GRZELOTKA_STACK_PRESENT])
             return 0x01;
-        r[MODE] = DELETE;
+        r[GRZELOTKA_MODE] = GRZELOTKA_DELETE;
         return 0;
     case START_WS:
-        if (!r[PRESENT])
+        if (!r[GRZELOTKA_STACK_PRESENT])
             return 0x01;
         lose(r);
-        r[MODE] = STACK_RUNS;
+        r[GRZELOTKA_MODE] = GRZELOTKA_STACK_RUNS;
         return 0;
     case UPDATE_AUTH_KEY:
-        if (r[AUTH_LOCK])
+        if (r[GRZELOTKA_AUTH_KEY_LOCKED])
             return 0x0A;
-        r[AUTH_PRESENT] = 1;
-        memcpy(r + AUTH_KEY, payload + 1, AUTH);
+        r[GRZELOTKA_AUTH_KEY_PRESENT] = 1;
+        memcpy(r + GRZELOTKA_AUTH_KEY, payload + 1, GRZELOTKA_AUTH_KEY_BYTES);
         return 0;
     case LOCK_AUTH_KEY:
-        r[AUTH_LOCK] = r[AUTH_PRESENT];
-        return r[AUTH_PRESENT] ? 0 : 0xFF;
+        r[GRZELOTKA_AUTH_KEY_LOCKED] = r[GRZELOTKA_AUTH_KEY_PRESENT];
+        return r[GRZELOTKA_AUTH_KEY_PRESENT] ? 0 : 0xFF;
     case ACTIVATE_ANTIROLLBACK:
-        if (!r[ROLLBACK])
-            memcpy(r + FLOOR, r + VERSION, 4);
-        r[ROLLBACK] = 1;
+        if (!r[GRZELOTKA_ANTIROLLBACK])
+            memcpy(r + GRZELOTKA_FLOOR, r + GRZELOTKA_STACK_VERSION, 4);
+        r[GRZELOTKA_ANTIROLLBACK] = 1;
         return 0;
     default:
         return key_command(r, opcode, payload, length, given);
@@ -333,19 +332,19 @@ static uint8_t idle(uint8_t *r, uint8_t *flash, uint16_t opcode, const uint8_t *
 /* GET_STATE: the state, and the error behind it */
 static uint8_t get_state(uint8_t *r, uint8_t *error) {
     *error = 0x00;
-    if (r[MODE] == UPGRADE || r[MODE] == DELETE)
+    if (r[GRZELOTKA_MODE] == GRZELOTKA_UPGRADE || r[GRZELOTKA_MODE] == GRZELOTKA_DELETE)
         return 0x10;
-    if (r[MODE] == IDLE) {
-        *error = r[ERROR];
-        r[ERROR] = 0;
+    if (r[GRZELOTKA_MODE] == GRZELOTKA_IDLE) {
+        *error = r[GRZELOTKA_PENDING_ERROR];
+        r[GRZELOTKA_PENDING_ERROR] = 0;
         return *error ? 0xFF : 0x00;
     }
     *error = 0xFE;
-    if (r[ASKED]) {
+    if (r[GRZELOTKA_STATE_REQUESTED]) {
         lose(r);
-        r[MODE] = IDLE;
+        r[GRZELOTKA_MODE] = GRZELOTKA_IDLE;
     } else {
-        r[ASKED] = 1;
+        r[GRZELOTKA_STATE_REQUESTED] = 1;
     }
     return 0xFF;
 }
@@ -353,16 +352,16 @@ static uint8_t get_state(uint8_t *r, uint8_t *error) {
 /* ---- the calls */
 
 size_t plain_record_bytes(void) {
-    return RECORD;
+    return GRZELOTKA_RECORD_BYTES;
 }
 
 uint8_t plain_fresh(uint8_t *record, size_t record_len) {
-    if (record_len != RECORD)
+    if (record_len != GRZELOTKA_RECORD_BYTES)
         return 1;
-    memset(record, 0, RECORD);
-    record[MODE] = IDLE;
-    put_word(record + VERSION, NO_VERSION);
-    put_word(record + BOUNDARY, COUNT);
+    memset(record, 0, GRZELOTKA_RECORD_BYTES);
+    record[GRZELOTKA_MODE] = GRZELOTKA_IDLE;
+    put_word(record + GRZELOTKA_STACK_VERSION, NO_VERSION);
+    put_word(record + GRZELOTKA_BOUNDARY, COUNT);
     return 0;
 }
 
@@ -389,12 +388,12 @@ uint8_t plain_handle(uint8_t *record, size_t record_len, uint8_t *flash, size_t 
     uint8_t status = 0x01, last = 0xFF, length = opcode == GET_STATE || opcode == STORE_USR_KEY ? 5 : 4;
     if (opcode == GET_STATE) {
         status = get_state(record, &last);
-    } else if (record[MODE] == IDLE) {
+    } else if (record[GRZELOTKA_MODE] == GRZELOTKA_IDLE) {
         uint8_t error = idle(record, flash, opcode, packet + 4, packet[3], &last);
-        record[ERROR] = error;
+        record[GRZELOTKA_PENDING_ERROR] = error;
         status = error != 0;
     } else {
-        record[ASKED] = 0;
+        record[GRZELOTKA_STATE_REQUESTED] = 0;
     }
     const uint8_t bytes[8] = {0x11, 0x0E, length, 0xFF, packet[1], packet[2], status, length == 5 ? last : 0};
     memcpy(reply, bytes, 8);
@@ -420,17 +419,17 @@ struct store {
 };
 
 static struct store next_store(const uint8_t *r, const struct plan *j) {
-    uint32_t done = word(r + RECORDED);
+    uint32_t done = word(r + GRZELOTKA_SECTORS_RECORDED);
     struct store s = {.kind = LAST};
     if (done < j->b) {
-        uint32_t i = j->b - 1 - done, rest = word(r + JOB_SIZE) - i * SECTOR;
-        s.kind = r[MADE] == 0 ? ERASE : r[MADE] == 1 ? WRITE : RECORD_IT;
+        uint32_t i = j->b - 1 - done, rest = word(r + GRZELOTKA_IMAGE_SIZE) - i * SECTOR;
+        s.kind = r[GRZELOTKA_STORES_MADE] == 0 ? ERASE : r[GRZELOTKA_STORES_MADE] == 1 ? WRITE : RECORD_IT;
         s.target = j->q + i;
         s.source = j->p + i;
         s.count = rest < SECTOR ? rest : SECTOR;
     } else if (done < j->b + j->cleared) {
         uint32_t i = done - j->b;
-        s.kind = r[MADE] == 0 ? ERASE : RECORD_IT;
+        s.kind = r[GRZELOTKA_STORES_MADE] == 0 ? ERASE : RECORD_IT;
         s.target = i < j->image_cleared ? j->p + i : j->boundary + (i - j->image_cleared);
     }
     return s;
@@ -438,28 +437,28 @@ static struct store next_store(const uint8_t *r, const struct plan *j) {
 
 /* the stores still to do */
 static uint32_t left_of(const uint8_t *r, const struct plan *j) {
-    uint32_t done = word(r + RECORDED);
+    uint32_t done = word(r + GRZELOTKA_SECTORS_RECORDED);
     uint32_t copies = done < j->b ? j->b - done : 0;
-    return 3 * copies + 2 * (j->b + j->cleared - done - copies) + 1 - r[MADE];
+    return 3 * copies + 2 * (j->b + j->cleared - done - copies) + 1 - r[GRZELOTKA_STORES_MADE];
 }
 
 static void commit(uint8_t *r, const struct plan *j) {
-    bool installs = r[MODE] == UPGRADE;
-    uint32_t version = installs ? word(r + JOB_VERSION) : NO_VERSION;
-    r[PRESENT] = installs;
-    r[MODE] = installs ? STACK_RUNS : IDLE;
-    put_word(r + VERSION, version);
-    put_word(r + SECTORS, j->b);
-    put_word(r + BOUNDARY, j->q);
-    if (installs && r[ROLLBACK])
-        put_word(r + FLOOR, version);
-    memset(r + JOB_P, 0, FLOOR - JOB_P);
+    bool installs = r[GRZELOTKA_MODE] == GRZELOTKA_UPGRADE;
+    uint32_t version = installs ? word(r + GRZELOTKA_IMAGE_VERSION) : NO_VERSION;
+    r[GRZELOTKA_STACK_PRESENT] = installs;
+    r[GRZELOTKA_MODE] = installs ? GRZELOTKA_STACK_RUNS : GRZELOTKA_IDLE;
+    put_word(r + GRZELOTKA_STACK_VERSION, version);
+    put_word(r + GRZELOTKA_STACK_SECTORS, j->b);
+    put_word(r + GRZELOTKA_BOUNDARY, j->q);
+    if (installs && r[GRZELOTKA_ANTIROLLBACK])
+        put_word(r + GRZELOTKA_FLOOR, version);
+    memset(r + GRZELOTKA_IMAGE_SECTOR, 0, GRZELOTKA_FLOOR - GRZELOTKA_IMAGE_SECTOR);
     lose(r);
 }
 
 static void record_sector(uint8_t *r) {
-    put_word(r + RECORDED, word(r + RECORDED) + 1);
-    r[MADE] = 0;
+    put_word(r + GRZELOTKA_SECTORS_RECORDED, word(r + GRZELOTKA_SECTORS_RECORDED) + 1);
+    r[GRZELOTKA_STORES_MADE] = 0;
 }
 
 static void write_sector(uint8_t *flash, const struct store *s) {
@@ -469,7 +468,7 @@ static void write_sector(uint8_t *flash, const struct store *s) {
 }
 
 static bool has_job(const uint8_t *r) {
-    return r[MODE] == UPGRADE || r[MODE] == DELETE;
+    return r[GRZELOTKA_MODE] == GRZELOTKA_UPGRADE || r[GRZELOTKA_MODE] == GRZELOTKA_DELETE;
 }
 
 uint8_t plain_work(uint8_t *record, size_t record_len, uint8_t *flash, size_t flash_len, uint32_t *left) {
@@ -486,11 +485,11 @@ uint8_t plain_work(uint8_t *record, size_t record_len, uint8_t *flash, size_t fl
     switch (s.kind) {
     case ERASE:
         erase(flash, s.target);
-        record[MADE]++;
+        record[GRZELOTKA_STORES_MADE]++;
         break;
     case WRITE:
         write_sector(flash, &s);
-        record[MADE]++;
+        record[GRZELOTKA_STORES_MADE]++;
         break;
     case RECORD_IT:
         record_sector(record);

@@ -39,7 +39,7 @@ link_tests() { # FOLDER LIBRARY
     done
 }
 
-# one test, with its seed: STEPS steps of fuzz, STATES states of damaged, VERDICTS states of verdicts
+# one test, with its seed: STEPS steps of fuzz, STATES states of damaged, VERDICTS states of verdicts; places needs none
 test_host() { # TEST FOLDER SEED
     # no path of the kit has a blank
     # shellcheck disable=SC2046
@@ -47,6 +47,7 @@ test_host() { # TEST FOLDER SEED
     fuzz) python3 -B tests/host/fuzz.py --seed "$3" --steps "${STEPS:-200000}" $(runner) "$2/driver" ;;
     verdicts) python3 -B tests/host/verdicts.py --seed "$3" --steps "${VERDICTS:-20}" $(runner) "$2/driver" ;;
     damaged) run86 "$2/damaged" "$3" "${STATES:-40}" ;;
+    places) python3 -B tests/host/places.py ;;
     *) run86 "$2/$1" "$3" ;;
     esac
 }

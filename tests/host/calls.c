@@ -123,7 +123,8 @@ static void sound_records(void) {
     memcpy(records[7].at, record, RECORD);
     finish(), state();
     memcpy(records[5].at, record, RECORD);
-    CHECK(records[4].at[8] == 0xFF && records[5].at[7] == 1 && records[6].at[1] == 2 && records[7].at[9] == 2);
+    CHECK(records[4].at[GRZELOTKA_PENDING_ERROR] == 0xFF && records[5].at[GRZELOTKA_STATE_REQUESTED] == 1 &&
+          records[6].at[GRZELOTKA_MODE] == GRZELOTKA_UPGRADE && records[7].at[GRZELOTKA_STORES_MADE] == 2);
 }
 
 static void make_given(void) {
@@ -134,7 +135,7 @@ static void make_given(void) {
         if (i > 0)
             memcpy(records[i].at, records[4].at, RECORD - 1);
     }
-    records[3].at[0] = 2; /* no record's */
+    records[3].at[GRZELOTKA_STACK_PRESENT] = 2; /* no record's */
     const size_t flash_lengths[FLASHES] = {0, FLASH - 1, FLASH + 1, FLASH};
     for (int i = 0; i < FLASHES; i++) {
         flashes[i] = given(flash_lengths[i], flash_lengths[i] == FLASH ? 0 : 2);
@@ -214,7 +215,7 @@ static void restart_refusals(void) {
         if (number)
             CHECK(unchanged(r, NULL) && all(a->at, a->length, 0));
         else
-            CHECK(a->at[0] == 0x12 && a->at[5] == (r->at[1] != 0) && all(a->at + 6, a->length - 6, 0));
+            CHECK(a->at[0] == 0x12 && a->at[5] == (r->at[GRZELOTKA_MODE] != GRZELOTKA_STACK_RUNS) && all(a->at + 6, a->length - 6, 0));
         if (!number)
             memcpy(r->at, before_record, RECORD);
     }
@@ -229,7 +230,7 @@ static void work_refusals(void) {
         CHECK(grzelotka_work(r->at, r->length, f->at, f->length, &left) == number);
         if (number)
             CHECK(unchanged(r, f) && left == 0);
-        else if (r->at[1] < 2)
+        else if (r->at[GRZELOTKA_MODE] < GRZELOTKA_UPGRADE)
             CHECK(unchanged(r, f) && left == 0);
         else
             CHECK(!unchanged(r, f) && left > 0);
@@ -250,25 +251,26 @@ static void cut_refusals(void) {
             CHECK(unchanged(r, f) && all(a->at, a->length, 0));
             continue;
         }
-        CHECK(a->at[0] == 0x12 && a->at[5] == (before_record[1] != 0) && all(a->at + 6, a->length - 6, 0));
+        CHECK(a->at[0] == 0x12 && a->at[5] == (before_record[GRZELOTKA_MODE] != GRZELOTKA_STACK_RUNS) && all(a->at + 6, a->length - 6, 0));
         CHECK(unchanged(&(struct given){0}, f) == (r != records + 6));
-        CHECK(r->at[34] == (r == records + 7 && through));
+        CHECK(r->at[GRZELOTKA_SECTORS_RECORDED] == (r == records + 7 && through));
         memcpy(r->at, before_record, RECORD), memcpy(f->at, before_flash, FLASH);
     }
 }
 
 static void fresh_refusals(void) {
-    for (size_t length = 0; length < 9000; length += length < 8 || (length > 4840 && length < 4870) ? 1 : 97) {
+    for (size_t length = 0; length < 9000; length += length < 8 || (length > RECORD - 13 && length < RECORD + 17) ? 1 : 97) {
         struct given r = given(length, length == RECORD ? 0 : 1);
         memset(r.at, 0xA5, length);
         CHECK(grzelotka_fresh(r.at, length) == r.number);
         if (r.number)
             CHECK(all(r.at, length, 0xA5));
     }
-    static const uint8_t start[42] = {0, 1, [10] = 0xFF, 0xFF, 0xFF, 0xFF, [18] = 244};
+    static const uint8_t start[GRZELOTKA_LOCKS] = {
+        [GRZELOTKA_MODE] = GRZELOTKA_IDLE, [GRZELOTKA_STACK_VERSION] = 0xFF, 0xFF, 0xFF, 0xFF, [GRZELOTKA_BOUNDARY] = COUNT};
     memset(record, 0xA5, RECORD);
     CHECK(grzelotka_record_bytes() == RECORD && grzelotka_fresh(record, RECORD) == 0);
-    CHECK(memcmp(record, start, 42) == 0 && all(record + 42, RECORD - 42, 0));
+    CHECK(memcmp(record, start, sizeof start) == 0 && all(record + sizeof start, RECORD - sizeof start, 0));
 }
 
 /* ---- replies */
@@ -373,7 +375,8 @@ static void upgrade_cases(void) {
     CHECK(taken(4, 230, 8196, &stores) == 0 && stores == 18);
     CHECK(all(flash + 243 * SECTOR, SECTOR, 0xFF)); /* the first store: the last image sector's target is erased */
     finish();
-    CHECK(record[0] == 1 && word(record + 18) == 241 && word(record + 14) == 3 && word(record + 10) == 9);
+    CHECK(record[GRZELOTKA_STACK_PRESENT] == 1 && word(record + GRZELOTKA_BOUNDARY) == 241 && word(record + GRZELOTKA_STACK_SECTORS) == 3 &&
+          word(record + GRZELOTKA_STACK_VERSION) == 9);
     for (int t = 230; t <= 240; t++)
         CHECK(all(flash + t * SECTOR, SECTOR, 0xFF));
     CHECK(memcmp(flash + 241 * SECTOR, "BNI\1\0", 5) == 0 && all(flash + 243 * SECTOR + 4, SECTOR - 4, 0xFF));
@@ -464,15 +467,16 @@ static void order_cases(void) {
 
 static void rollback_cases(void) {
     fresh_with_stack(3, 9);
-    CHECK(command(0x5F) == 0 && word(record + 38) == 9);
+    CHECK(command(0x5F) == 0 && word(record + GRZELOTKA_FLOOR) == 9);
     CHECK(judged_with(12, 8, 9000, 0x11, false) && judged_with(12, 9, 9000, 0, false) && judged_with(12, 10, 9000, 0, false));
     CHECK(judged_with(15, 0x80, 9000, 0, false)); /* versions have no sign */
-    CHECK(command(0x5F) == 0 && word(record + 38) == 9);
+    CHECK(command(0x5F) == 0 && word(record + GRZELOTKA_FLOOR) == 9);
     put_image(flash, 50, 9000, 12), CHECK(command(0x54) == 0);
     finish();
-    CHECK(word(record + 38) == 12 && record[1] == 0);
+    CHECK(word(record + GRZELOTKA_FLOOR) == 12 && record[GRZELOTKA_MODE] == GRZELOTKA_STACK_RUNS);
     CHECK(state() == 0xFFFE && state() == 0xFFFE && command(0x55) == 0 && finish() == 7);
-    CHECK(word(record + 10) == 0xFFFFFFFF && command(0x5F) == 0 && word(record + 38) == 12); /* once on, the floor stays */
+    /* once on, the floor stays */
+    CHECK(word(record + GRZELOTKA_STACK_VERSION) == 0xFFFFFFFF && command(0x5F) == 0 && word(record + GRZELOTKA_FLOOR) == 12);
 }
 
 /* two images: the higher one is found first */
@@ -480,7 +484,7 @@ static void search_cases(void) {
     fresh_with_stack(0, 0);
     put_image(flash, 40, 9000, 9), put_image(flash, 51, 90, 9);
     CHECK(command(0x54) == 1 && state() == 0xFF02 && all(flash + 51 * SECTOR, SECTOR, 0xFF));
-    CHECK(command(0x54) == 0 && word(record + 22) == 40);
+    CHECK(command(0x54) == 0 && word(record + GRZELOTKA_IMAGE_SECTOR) == 40);
 }
 
 /* ---- keys and the pair of state requests */
@@ -494,26 +498,36 @@ static void key_cases(void) {
     CHECK(store(2, 32) == 0 && store(2, 16) == 0xFF && command_of(0x59, 1) == 0);
     for (int i = 2; i <= 100; i++)
         CHECK(store(i % 2 ? 1 : 3, i % 2 ? 16 : 28) == i);
-    CHECK(store(1, 16) == 0xFF && store(3, 28) == 0xFF && record[2] == 100);
-    CHECK(command_of(0x59, 100) == 0 && command_of(0x59, 101) == 1 && record[6] == 100);
-    CHECK(command_of(0x5D, 100) == 0 && command_of(0x5D, 100) == 0 && record[6] == 100 && command_of(0x59, 100) == 1 && record[6] == 100);
+    CHECK(store(1, 16) == 0xFF && store(3, 28) == 0xFF && record[GRZELOTKA_KEYS_STORED] == 100);
+    CHECK(command_of(0x59, 100) == 0 && command_of(0x59, 101) == 1 && record[GRZELOTKA_LOADED_KEY] == 100);
+    CHECK(command_of(0x5D, 100) == 0 && command_of(0x5D, 100) == 0 && record[GRZELOTKA_LOADED_KEY] == 100 && command_of(0x59, 100) == 1 &&
+          record[GRZELOTKA_LOADED_KEY] == 100);
     CHECK(command_of(0x5E, 99) == 1 && command_of(0x5E, 100) == 0 && command_of(0x5E, 100) == 1 && command_of(0x5E, 0) == 1);
     CHECK(restart() == 1 && command_of(0x59, 100) == 0);
     uint8_t key[64] = {1};
     CHECK(update_auth(key) == 0 && command(0x57) == 0 && command(0x57) == 0 && update_auth(key) == 1 && state() == 0xFF0A);
 }
 
+/* was the first state request made? */
+static bool asked(void) {
+    return record[GRZELOTKA_STATE_REQUESTED] == 1;
+}
+
+static bool stack_runs(void) {
+    return record[GRZELOTKA_MODE] == GRZELOTKA_STACK_RUNS;
+}
+
 static void pair_cases(void) {
     static const uint8_t wrong[4] = {0x10, 0x53, 0xFC, 0}, ask[4] = {0x10, 0x52, 0xFC, 0};
     fresh_with_stack(4, 7);
     CHECK(command(0x5A) == 0 && restart() == 0);
-    CHECK(state() == 0xFFFE && handle(wrong, 4) == 7 && record[7] == 1 && state() == 0xFFFE && state() == 0x0000);
-    CHECK(command(0x5A) == 0 && handle(wrong, 4) == 7 && state() == 0xFFFE && record[1] == 0);
-    CHECK(grzelotka_handle(record, RECORD, flash, FLASH, ask, 4, reply, 7) == 3 && record[7] == 1 && record[1] == 0);
-    CHECK(grzelotka_handle(record, RECORD, flash, FLASH - 1, ask, 4, reply, 8) == 2 && record[7] == 1 && record[1] == 0);
-    CHECK(command(0x57) == 1 && record[7] == 0 && state() == 0xFFFE && record[1] == 0); /* another lawful command breaks the pair */
-    CHECK(work() == 0 && record[7] == 1 && restart() == 0 && record[7] == 0); /* work does not, a restart does */
-    CHECK(state() == 0xFFFE && cut(1) == 0 && state() == 0xFFFE && record[1] == 0 && state() == 0xFFFE && record[1] == 1);
+    CHECK(state() == 0xFFFE && handle(wrong, 4) == 7 && asked() && state() == 0xFFFE && state() == 0x0000);
+    CHECK(command(0x5A) == 0 && handle(wrong, 4) == 7 && state() == 0xFFFE && stack_runs());
+    CHECK(grzelotka_handle(record, RECORD, flash, FLASH, ask, 4, reply, 7) == 3 && asked() && stack_runs());
+    CHECK(grzelotka_handle(record, RECORD, flash, FLASH - 1, ask, 4, reply, 8) == 2 && asked() && stack_runs());
+    CHECK(command(0x57) == 1 && !asked() && state() == 0xFFFE && stack_runs()); /* another lawful command breaks the pair */
+    CHECK(work() == 0 && asked() && restart() == 0 && !asked()); /* work does not, a restart does */
+    CHECK(state() == 0xFFFE && cut(1) == 0 && state() == 0xFFFE && stack_runs() && state() == 0xFFFE && record[GRZELOTKA_MODE] == GRZELOTKA_IDLE);
 }
 
 /* a job pending at start means that FUS runs; during it only GET_STATE does not fail */
@@ -523,11 +537,12 @@ static void job_cases(void) {
     for (size_t i = 1; i < COMMANDS; i++) {
         uint8_t packet[LONGEST];
         size_t n = make_packet(packet, commands[i].opcode, commands[i].opcode == 0xFC58 ? 18 : commands[i].most);
-        CHECK(handle(packet, n) == 0 && reply[6] == 1 && (commands[i].opcode != 0xFC58 || reply[7] == 0xFF) && record[8] == 0);
+        CHECK(handle(packet, n) == 0 && reply[6] == 1 && (commands[i].opcode != 0xFC58 || reply[7] == 0xFF) &&
+              record[GRZELOTKA_PENDING_ERROR] == 0);
     }
     for (uint32_t left = 8; left > 0; left--)
         CHECK(work() == left && state() == 0x1000);
-    CHECK(cut(0) == 1 && state() == 0x1000 && cut(1) == 1 && state() == 0x0000 && word(record + 18) == 244 && work() == 0);
+    CHECK(cut(0) == 1 && state() == 0x1000 && cut(1) == 1 && state() == 0x0000 && word(record + GRZELOTKA_BOUNDARY) == 244 && work() == 0);
 }
 
 int main(int count, char **words) {

@@ -55,8 +55,8 @@ static void random_state(uint32_t way) {
         works = below(2 * old + 1);
         break;
     default:
-        record[3] = record[4] = 0; /* so that the image is taken */
-        record[5] = 0, put_word(record + 38, 0);
+        record[GRZELOTKA_AUTH_KEY_PRESENT] = record[GRZELOTKA_AUTH_KEY_LOCKED] = 0; /* so that the image is taken */
+        record[GRZELOTKA_ANTIROLLBACK] = 0, put_word(record + GRZELOTKA_FLOOR, 0);
         put_image(flash, COUNT - old - b - 1 - below(100), b * SECTOR - 4 * below(1000), 9);
         command(0x54);
         works = below(4) ? below(3 * b + old) : 3 * b + 2 * old;
@@ -125,7 +125,7 @@ static void each_byte(void) {
         uint8_t old = honest[i];
         const uint8_t values[] = {old ^ 1, old ^ 0x80, old + 1, old - 1, 0, 2, 0xFF, random_number()};
         /* the keys' bytes hold no number: fewer ways do */
-        for (uint32_t way = 0; way < (i < 409 ? 8 : 2); way++) {
+        for (uint32_t way = 0; way < (i < GRZELOTKA_KEY_BYTES ? 8 : 2); way++) {
             if (values[way] == old)
                 continue;
             damaged[i] = values[way];
@@ -136,7 +136,7 @@ static void each_byte(void) {
 }
 
 static void each_word(void) {
-    for (uint32_t at = 10; at < 42; at += 4) {
+    for (uint32_t at = GRZELOTKA_STACK_VERSION; at < GRZELOTKA_LOCKS; at += 4) {
         uint32_t old = word(honest + at);
         const uint32_t values[] = {0, 1, old + 1, old - 1, old + 4, old - 4, 84, 243, 244, 245, 0xFFFFFFFF, 0xFFFFFFFC, 0x80000000, random_number()};
         for (uint32_t way = 0; way < sizeof values / 4; way++) {
@@ -152,7 +152,7 @@ static void each_word(void) {
 static void several(void) {
     for (int i = 0; i < 400; i++) {
         for (uint32_t n = 1 + below(4); n > 0; n--)
-            damaged[below(42)] = below(3) ? below(4) : random_number();
+            damaged[below(GRZELOTKA_LOCKS)] = below(3) ? below(4) : random_number();
         try_damaged();
         memcpy(damaged, honest, RECORD);
     }

@@ -1,6 +1,7 @@
 /* Plays calls for the model: it maps the file it is given, which the model maps too, and for each request on standard input makes one call on
    the buffers in that file and writes the answer to standard output. fuzz.py and damaged.py know the same places. */
 #include "grzelotka.h"
+#include "grzelotka_record.h"
 #include <stdbool.h>
 #include <string.h>
 
@@ -29,7 +30,7 @@ static uint8_t *at(size_t place, uint32_t length) {
 
 /* for each byte of the record and each value: what restart would answer with that byte changed */
 static void verdicts(void) {
-    uint8_t record[4853], event[6];
+    uint8_t record[GRZELOTKA_RECORD_BYTES], event[6];
     for (size_t i = 0; i < sizeof record; i++)
         for (int value = 0; value < 256; value++) {
             memcpy(record, file + RECORD_AT, sizeof record);

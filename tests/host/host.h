@@ -3,6 +3,7 @@
 #define HOST_H
 
 #include "grzelotka.h"
+#include "grzelotka_record.h"
 #include <stdbool.h>
 #include <string.h>
 
@@ -12,7 +13,7 @@ void exit(int);
 void *mmap(void *, size_t, int, int, int, long);
 int mprotect(void *, size_t, int);
 
-enum { SECTOR = 4096, COUNT = 244, FLASH = SECTOR * COUNT, RECORD = 4853, PAGE = 65536 };
+enum { SECTOR = 4096, COUNT = 244, FLASH = SECTOR * COUNT, RECORD = GRZELOTKA_RECORD_BYTES, PAGE = 65536 };
 
 /* a page of any machine fits PAGE */
 static inline uint8_t *pages(size_t n) {

@@ -51,15 +51,16 @@ static void want_record(const struct job *j) {
     uint8_t *r = wanted_record;
     bool installs = j->size != 0;
     memcpy(r, begun_record, RECORD);
-    r[0] = installs, r[1] = !installs;
-    memset(r + 6, 0, 4);
-    put_word(r + 10, installs ? 9 : 0xFFFFFFFF);
-    put_word(r + 14, b);
-    put_word(r + 18, q);
-    memset(r + 22, 0, 16);
-    if (installs && r[5])
-        put_word(r + 38, 9);
-    memset(r + 42, 0, 101);
+    r[GRZELOTKA_STACK_PRESENT] = installs, r[GRZELOTKA_MODE] = installs ? GRZELOTKA_STACK_RUNS : GRZELOTKA_IDLE;
+    r[GRZELOTKA_LOADED_KEY] = r[GRZELOTKA_STATE_REQUESTED] = r[GRZELOTKA_PENDING_ERROR] = r[GRZELOTKA_STORES_MADE] = 0;
+    put_word(r + GRZELOTKA_STACK_VERSION, installs ? 9 : 0xFFFFFFFF);
+    put_word(r + GRZELOTKA_STACK_SECTORS, b);
+    put_word(r + GRZELOTKA_BOUNDARY, q);
+    put_word(r + GRZELOTKA_IMAGE_SECTOR, 0), put_word(r + GRZELOTKA_IMAGE_SIZE, 0), put_word(r + GRZELOTKA_IMAGE_VERSION, 0);
+    put_word(r + GRZELOTKA_SECTORS_RECORDED, 0);
+    if (installs && r[GRZELOTKA_ANTIROLLBACK])
+        put_word(r + GRZELOTKA_FLOOR, 9);
+    memset(r + GRZELOTKA_LOCKS, 0, GRZELOTKA_SLOTS);
 }
 
 /* a device with its old stack, keys of which one is loaded and one locked, anti-rollback on if there is a stack, and the job accepted */
@@ -73,7 +74,7 @@ static void begin(const struct job *j) {
     if (j->size)
         put_image(flash, j->p, j->size, 9);
     CHECK(command(j->size ? 0x54 : 0x55) == 0);
-    CHECK(record[6] == 2 && record[43] == 1); /* kept until something loses them */
+    CHECK(record[GRZELOTKA_LOADED_KEY] == 2 && record[GRZELOTKA_LOCKS + 1] == 1); /* kept until something loses them */
     memcpy(begun_record, record, RECORD), memcpy(begun_flash, flash, FLASH);
     want_flash(j), want_record(j);
 }
@@ -81,7 +82,7 @@ static void begin(const struct job *j) {
 /* ---- a run */
 
 static bool ended(void) {
-    return record[1] < 2;
+    return record[GRZELOTKA_MODE] < GRZELOTKA_UPGRADE;
 }
 
 static void packets_between(uint32_t way) {
@@ -105,7 +106,7 @@ static void cut_now(uint32_t through, uint32_t between) {
     if (ended()) {
         CHECK(through && code == (b == 0));
     } else {
-        CHECK(code == 1 && record[9] == 0);
+        CHECK(code == 1 && record[GRZELOTKA_STORES_MADE] == 0);
         packets_between(between);
     }
 }
@@ -131,8 +132,8 @@ static void go_back_to(const uint8_t *old_record, const uint8_t *old_flash) {
 }
 
 static bool at_record_store(void) {
-    uint32_t recorded = word(record + 34);
-    return recorded == b + c || record[9] == (recorded < b ? 2 : 1);
+    uint32_t recorded = word(record + GRZELOTKA_SECTORS_RECORDED);
+    return recorded == b + c || record[GRZELOTKA_STORES_MADE] == (recorded < b ? 2 : 1);
 }
 
 /* a second cut after so many works */
