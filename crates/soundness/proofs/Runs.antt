@@ -1,33 +1,28 @@
 -- The slots in the order in which the code goes over them: the master's, the user keys', and those that hold nothing.
 -- Assumes nothing.
-use Prim.Native.Nat.{ℕ, zero, suc, _+_, _≤_, _<_}
+use Prim.Native.Nat.{ℕ, zero, suc, _+_, _*_, _≤_, _<_}
 use mathlib.Core.Path.{_≡_, refl, sym}
-use mathlib.Core.Bool.{Bool, true, false, _&&_, _||_, or-true}
+use mathlib.Core.Bool.{Bool, true, false, not, _&&_, _||_, or-true}
 use mathlib.Core.List.{List}
 use native.Mathlib.Omega.{arith}
-use borrow.Author.Tests.{leb-true, le-leb, ltb-true, ltb-false, lt-ltb, eqb-true, eq-eqb}
+use borrow.Author.Tests.{le-leb, ltb-true, ltb-false, lt-ltb, le-ltb, not-true, eqb-true, eq-eqb}
 use lib.Dec.{leb, ltb, eqb}
 use lib.ListN.{getD}
 use Rattle.basics.specs.Choice.{pick, both-true, and-left, and-right, or-either}
-use Rattle.keys.specs.Keys.{keyLawful}
-use Rattle.soundness.specs.Sound.{noneIn, masterIn, userIn, firstIn, userTest, noneTest, usersEnd, slotTest, allBelow, slotsSound}
+use Rattle.soundness.specs.Sound.{noneIn, masterIn, userIn, firstIn, placeIn, placeTest, usersEnd, slotTest, allBelow, slotsSound}
 use Rattle.soundness.proofs.Laws.{all-below, each-below}
-use Rattle.soundness.proofs.Slots.{Slot, none, master, user, slot-of, slot-sound}
+use Rattle.soundness.proofs.Slots.{Slot, none, master, user, none-in, master-in, user-in, slot-of, slot-sound}
 
 -- a user key by its type
 pub user-by : (kind size lock : ℕ)
     → (((eqb kind 1 && (eqb size 16 || eqb size 32)) || (eqb kind 3 && (eqb size 28 || eqb size 44))) && leb lock 1) ≡ userIn kind size lock
-user-by kind size lock = one (eqb kind 1) refl
+user-by kind size lock = go (eqb kind 1) (eqb kind 3) refl refl
   where
-    three : (t : Bool) → eqb kind 1 ≡ false → eqb kind 3 ≡ t
+    go : (s t : Bool) → eqb kind 1 ≡ s → eqb kind 3 ≡ t
         → (((eqb kind 1 && (eqb size 16 || eqb size 32)) || (eqb kind 3 && (eqb size 28 || eqb size 44))) && leb lock 1) ≡ userIn kind size lock
-    three true n e = let k : kind ≡ 3 = eqb-true kind 3 e in rw k refl
-    three false n e = rw (n, e) refl
-
-    one : (t : Bool) → eqb kind 1 ≡ t
-        → (((eqb kind 1 && (eqb size 16 || eqb size 32)) || (eqb kind 3 && (eqb size 28 || eqb size 44))) && leb lock 1) ≡ userIn kind size lock
-    one true e = let k : kind ≡ 1 = eqb-true kind 1 e in rw k refl
-    one false e = three (eqb kind 3) e refl
+    go true t p q = let k : kind ≡ 1 = eqb-true kind 1 p in rw k
+    go false true p q = let k : kind ≡ 3 = eqb-true kind 3 q in rw k
+    go false false p q = rw (p, q)
 
 -- tests that hold together are the same
 same : (a b : Bool) → (a ≡ true → b ≡ true) → (b ≡ true → a ≡ true) → a ≡ b
@@ -36,14 +31,6 @@ same false true f g = g refl
 same false false f g = refl
 
 -- where the user keys end
-end-between : (count : ℕ) → (1 ≤ usersEnd count) × (usersEnd count ≤ 101)
-unfolding pick
-end-between count = go (ltb count 100) refl
-  where
-    go : (t : Bool) → ltb count 100 ≡ t → (1 ≤ pick t (count + 1) 101) × (pick t (count + 1) 101 ≤ 101)
-    go true e = let h : count < 100 = ltb-true count 100 e in (omega arith, omega arith)
-    go false e = (omega arith, omega arith)
-
 before-end : (count i : ℕ) → i < usersEnd count → i ≤ count
 unfolding pick
 before-end count i = go (ltb count 100) refl
@@ -78,90 +65,93 @@ module _ (i count kind size lock : ℕ) where
   none-of low high (master k law l q) = let z : ⊥ = omega arith in absurd z
   none-of low high (user k law l low₂ high₂) = let z : ⊥ = omega arith in absurd z
 
-  holds-none : (1 ≤ i → count < i) → noneIn kind size lock ≡ true → Slot i count kind size lock
-  holds-none h e =
-      let a = and-left (eqb kind 0 && eqb size 0) (eqb lock 0) e in
-      none (eqb-true kind 0 (and-left (eqb kind 0) (eqb size 0) a)) (eqb-true size 0 (and-right (eqb kind 0) (eqb size 0) a)) (eqb-true lock 0 (and-right (eqb kind 0 && eqb size 0) (eqb lock 0) e)) h
+-- where a loop begins
+pub places-start : (from end : ℕ) (kinds sizes locks : List ℕ) → allBelow from (placeTest from end kinds sizes locks) ≡ true
+places-start from end kinds sizes locks = all-below from (placeTest from end kinds sizes locks) (λ i h. rw (lt-ltb i from h))
 
-  holds-first : i ≡ 0 → firstIn kind size lock ≡ true → Slot i count kind size lock
-  holds-first z e =
-      or-either (noneIn kind size lock) (masterIn kind size lock) e
-      (λ a. holds-none (λ low. let y : ⊥ = omega arith in absurd y) a)
-      (λ a.
-      let b = and-left (eqb kind 2 && keyLawful kind size) (eqb lock 0) a in
-      master (eqb-true kind 2 (and-left (eqb kind 2) (keyLawful kind size) b)) (and-right (eqb kind 2) (keyLawful kind size) b) (eqb-true lock 0 (and-right (eqb kind 2 && keyLawful kind size) (eqb lock 0) a)) z)
+-- the byte that counts twice the slot
+pub twice-below : (n m i e : ℕ) → n ≡ i * 2 → m ≡ e * 2 → ltb n m ≡ ltb i e
+twice-below n m i e p q = go (ltb i e) refl
+  where
+    go : (t : Bool) → ltb i e ≡ t → ltb n m ≡ t
+    go true h = let g : i < e = ltb-true i e h in lt-ltb n m (omega arith)
+    go false h = let g : e ≤ i = ltb-false i e h in le-ltb n m (omega arith)
 
-  holds-user : 1 ≤ i → i ≤ count → userIn kind size lock ≡ true → Slot i count kind size lock
-  holds-user low high e =
-      let k = eqb kind 1 || eqb kind 3 in
-      let a = and-left (k && keyLawful kind size) (leb lock 1) e in
-      user (and-left k (keyLawful kind size) a) (and-right k (keyLawful kind size) a) (leb-true lock 1 (and-right (k && keyLawful kind size) (leb lock 1) e)) low high
-
--- where the two loops begin
-pub users-start : (kinds sizes locks : List ℕ) → allBelow 1 (userTest kinds sizes locks) ≡ true
-users-start kinds sizes locks =
-    all-below 1 (userTest kinds sizes locks) (λ i h. let e : i ≡ 0 = omega arith in rw e)
-
-pub rest-start : (end : ℕ) (kinds sizes locks : List ℕ) → allBelow end (noneTest end kinds sizes locks) ≡ true
-rest-start end kinds sizes locks = all-below end (noneTest end kinds sizes locks) (λ i h. rw (lt-ltb i end h))
-
--- all slots
-module _ (count : ℕ) (kinds sizes locks : List ℕ) where
+-- all slots, by two loops: from 1 to `to`, and from `from` on
+module _ (count to from : ℕ) (kinds sizes locks : List ℕ) (low : 1 ≤ from) (meet : from ≤ to) (fit : to ≤ 101) where
   abbrev first : Bool
   first = firstIn (getD kinds 0 0) (getD sizes 0 0) (getD locks 0 0)
 
-  abbrev users : Bool
-  users = allBelow (usersEnd count) (userTest kinds sizes locks)
+  abbrev many : Bool
+  many = allBelow to (placeTest 1 (usersEnd count) kinds sizes locks)
 
   abbrev rest : Bool
-  rest = allBelow 101 (noneTest (usersEnd count) kinds sizes locks)
+  rest = allBelow 101 (placeTest from (usersEnd count) kinds sizes locks)
 
   abbrev In : ℕ → Type 0
   In i = Slot i count (getD kinds i 0) (getD sizes i 0) (getD locks i 0)
 
-  user-holds : (i : ℕ) → i < usersEnd count → In i → userTest kinds sizes locks i ≡ true
-  user-holds zero h s = refl
-  user-holds (suc n) h s =
-      rw (user-of (suc n) count (getD kinds (suc n) 0) (getD sizes (suc n) 0) (getD locks (suc n) 0) (omega arith) (before-end count (suc n) h) s) (or-true (eqb (suc n) 0))
+  abbrev Place : ℕ → Bool
+  Place i = placeIn i (usersEnd count) (getD kinds i 0) (getD sizes i 0) (getD locks i 0)
 
-  none-holds : (i : ℕ) (t : Bool) → ltb i (usersEnd count) ≡ t → i < 101 → In i → noneTest (usersEnd count) kinds sizes locks i ≡ true
-  none-holds i true e h s = rw e
-  none-holds i false e h s =
-      let far : usersEnd count ≤ i = ltb-false i (usersEnd count) e in
-      rw (none-of i count (getD kinds i 0) (getD sizes i 0) (getD locks i 0) (omega (arith, end-between count .0)) (from-end count i h far) s) (or-true (ltb i (usersEnd count)))
+  place-of : (i : ℕ) (t : Bool) → ltb i (usersEnd count) ≡ t → 1 ≤ i → i < 101 → In i → Place i ≡ true
+  place-of i true e one h s =
+      let u = user-of i count (getD kinds i 0) (getD sizes i 0) (getD locks i 0) one (before-end count i (ltb-true i (usersEnd count) e)) s in rw (e, u)
+  place-of i false e one h s =
+      let u = none-of i count (getD kinds i 0) (getD sizes i 0) (getD locks i 0) one (from-end count i h (ltb-false i (usersEnd count) e)) s in rw (e, u)
 
-  parted : slotsSound count kinds sizes locks ≡ true → (first && users && rest) ≡ true
+  place-holds : (from i : ℕ) (t : Bool) → ltb i from ≡ t → 1 ≤ from → i < 101 → In i → placeTest from (usersEnd count) kinds sizes locks i ≡ true
+  place-holds from i true e low h s = rw e
+  place-holds from i false e low h s =
+      let g : from ≤ i = ltb-false i from e in
+      let u : Place i ≡ true = place-of i (ltb i (usersEnd count)) refl (omega arith) h s in rw u (or-true (ltb i from))
+
+  parted : slotsSound count kinds sizes locks ≡ true → (first && many && rest) ≡ true
   unfolding slotsSound
   parted e =
       let each : (i : ℕ) → i < 101 → In i =
       λ i h. slot-of i count (getD kinds i 0) (getD sizes i 0) (getD locks i 0) (each-below 101 (slotTest count kinds sizes locks) e i h) in
-      both-true (first && users) rest
-      (both-true first users
+      both-true (first && many) rest
+      (both-true first many
       (first-of 0 count (getD kinds 0 0) (getD sizes 0 0) (getD locks 0 0) refl (each 0 (omega arith)))
-      (all-below (usersEnd count) (userTest kinds sizes locks) (λ i h. user-holds i h (each i (omega (arith, end-between count .1))))))
-      (all-below 101 (noneTest (usersEnd count) kinds sizes locks) (λ i h. none-holds i (ltb i (usersEnd count)) refl h (each i h)))
+      (all-below to (placeTest 1 (usersEnd count) kinds sizes locks) (λ i h. place-holds 1 i (ltb i 1) refl (omega arith) (omega arith) (each i (omega arith)))))
+      (all-below 101 (placeTest from (usersEnd count) kinds sizes locks) (λ i h. place-holds from i (ltb i from) refl (omega arith) h (each i h)))
 
-  holds : (i : ℕ) (t : Bool) → ltb i (usersEnd count) ≡ t → i < 101 → first ≡ true → users ≡ true → rest ≡ true → In i
-  holds zero t e h f u r = holds-first 0 count (getD kinds 0 0) (getD sizes 0 0) (getD locks 0 0) refl f
+  holds-place : (i : ℕ) → 1 ≤ i → i < 101 → Place i ≡ true → In i
+  holds-place i one h e =
+      let u = userIn (getD kinds i 0) (getD sizes i 0) (getD locks i 0) in
+      let n = noneIn (getD kinds i 0) (getD sizes i 0) (getD locks i 0) in
+      let t = ltb i (usersEnd count) in
+      or-either (t && u) (not t && n) e
+      (λ z. user-in i count (getD kinds i 0) (getD sizes i 0) (getD locks i 0) (and-right t u z) one (before-end count i (ltb-true i (usersEnd count) (and-left t u z))))
+      (λ z. none-in i count (getD kinds i 0) (getD sizes i 0) (getD locks i 0) (and-right (not t) n z) (λ g. from-end count i h (ltb-false i (usersEnd count) (not-true t (and-left (not t) n z)))))
+
+  holds-first : first ≡ true → In 0
+  holds-first e =
+      or-either (noneIn (getD kinds 0 0) (getD sizes 0 0) (getD locks 0 0)) (masterIn (getD kinds 0 0) (getD sizes 0 0) (getD locks 0 0)) e
+      (λ a. none-in 0 count (getD kinds 0 0) (getD sizes 0 0) (getD locks 0 0) a (λ low. let y : ⊥ = omega arith in absurd y))
+      (λ a. master-in 0 count (getD kinds 0 0) (getD sizes 0 0) (getD locks 0 0) a refl)
+
+  beyond : (at i : ℕ) → at ≤ i → 1 ≤ i → i < 101 → placeTest at (usersEnd count) kinds sizes locks i ≡ true → In i
+  beyond at i g one h e =
+      or-either (ltb i at) (Place i) e
+      (λ z. let q : i < at = ltb-true i at z in let y : ⊥ = omega arith in absurd y)
+      (holds-place i one h)
+
+  holds : (i : ℕ) (t : Bool) → ltb i to ≡ t → i < 101 → first ≡ true → many ≡ true → rest ≡ true → In i
+  holds zero t e h f u r = holds-first f
   holds (suc n) true e h f u r =
-      let g : suc n < usersEnd count = ltb-true (suc n) (usersEnd count) e in
-      or-either (eqb (suc n) 0) (userIn (getD kinds (suc n) 0) (getD sizes (suc n) 0) (getD locks (suc n) 0))
-      (each-below (usersEnd count) (userTest kinds sizes locks) u (suc n) g)
-      (λ z. let q : suc n ≡ 0 = eqb-true (suc n) 0 z in let y : ⊥ = omega arith in absurd y)
-      (λ z. holds-user (suc n) count (getD kinds (suc n) 0) (getD sizes (suc n) 0) (getD locks (suc n) 0) (omega arith) (before-end count (suc n) g) z)
+      beyond 1 (suc n) (omega arith) (omega arith) h (each-below to (placeTest 1 (usersEnd count) kinds sizes locks) u (suc n) (ltb-true (suc n) to e))
   holds (suc n) false e h f u r =
-      let g : usersEnd count ≤ suc n = ltb-false (suc n) (usersEnd count) e in
-      or-either (ltb (suc n) (usersEnd count)) (noneIn (getD kinds (suc n) 0) (getD sizes (suc n) 0) (getD locks (suc n) 0))
-      (each-below 101 (noneTest (usersEnd count) kinds sizes locks) r (suc n) h)
-      (λ z. let q : suc n < usersEnd count = ltb-true (suc n) (usersEnd count) z in let y : ⊥ = omega arith in absurd y)
-      (λ z. holds-none (suc n) count (getD kinds (suc n) 0) (getD sizes (suc n) 0) (getD locks (suc n) 0) (λ low. from-end count (suc n) h g) z)
+      let g : to ≤ suc n = ltb-false (suc n) to e in
+      beyond from (suc n) (omega arith) (omega arith) h (each-below 101 (placeTest from (usersEnd count) kinds sizes locks) r (suc n) h)
 
-  joined : (first && users && rest) ≡ true → slotsSound count kinds sizes locks ≡ true
+  joined : (first && many && rest) ≡ true → slotsSound count kinds sizes locks ≡ true
   unfolding slotsSound
   joined e =
-      let a = and-left (first && users) rest e in
+      let a = and-left (first && many) rest e in
       all-below 101 (slotTest count kinds sizes locks)
-      (λ i h. slot-sound i count (getD kinds i 0) (getD sizes i 0) (getD locks i 0) (holds i (ltb i (usersEnd count)) refl h (and-left first users a) (and-right first users a) (and-right (first && users) rest e)))
+      (λ i h. slot-sound i count (getD kinds i 0) (getD sizes i 0) (getD locks i 0) (holds i (ltb i to) refl h (and-left first many a) (and-right first many a) (and-right (first && many) rest e)))
 
-  pub slots-by : (first && users && rest) ≡ slotsSound count kinds sizes locks
-  slots-by = same (first && users && rest) (slotsSound count kinds sizes locks) joined parted
+  pub slots-by : (first && many && rest) ≡ slotsSound count kinds sizes locks
+  slots-by = same (first && many && rest) (slotsSound count kinds sizes locks) joined parted

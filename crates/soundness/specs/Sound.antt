@@ -119,15 +119,15 @@ slotTest count kinds sizes locks i = slotSound i count (getD kinds i 0) (getD si
 unfoldable pub slotsSound : ℕ → List ℕ → List ℕ → List ℕ → Bool
 slotsSound count kinds sizes locks = allBelow 101 (slotTest count kinds sizes locks)
 
--- the same in the order in which the code goes: the master's slot, the slots below `end`, and those from there on
+-- the same in the order in which the code goes: the master's slot, then the slots from `from` on, of which those below `end` hold user keys
 abbrev pub firstIn : ℕ → ℕ → ℕ → Bool
 firstIn kind size lock = noneIn kind size lock || masterIn kind size lock
 
-abbrev pub userTest : List ℕ → List ℕ → List ℕ → ℕ → Bool
-userTest kinds sizes locks i = eqb i 0 || userIn (getD kinds i 0) (getD sizes i 0) (getD locks i 0)
+abbrev pub placeIn : ℕ → ℕ → ℕ → ℕ → ℕ → Bool
+placeIn i end kind size lock = (ltb i end && userIn kind size lock) || (not (ltb i end) && noneIn kind size lock)
 
-abbrev pub noneTest : ℕ → List ℕ → List ℕ → List ℕ → ℕ → Bool
-noneTest end kinds sizes locks i = ltb i end || noneIn (getD kinds i 0) (getD sizes i 0) (getD locks i 0)
+abbrev pub placeTest : ℕ → ℕ → List ℕ → List ℕ → List ℕ → ℕ → Bool
+placeTest from end kinds sizes locks i = ltb i from || placeIn i end (getD kinds i 0) (getD sizes i 0) (getD locks i 0)
 
 abbrev pub usersEnd : ℕ → ℕ
 usersEnd count = pick (ltb count 100) (count + 1) 101

@@ -1,3 +1,4 @@
+use native.Mathlib.Omega.{arith}
 use borrow.Author.Needs.{needs}
 use Rattle.soundness.proofs.Runs.{slots-by}
 use Rattle.soundness.proofs.slots_sound.Statement.{statement}
@@ -18,21 +19,21 @@ shared-slice-read-first-in-3 c = search needs
 first-in-requires : tie.Need-first-in-requires
 first-in-requires c κs = search needs
 
-users-in-requires : tie.Need-users-in-requires
-users-in-requires c κs = search needs
+places-in-requires : tie.Need-places-in-requires
+places-in-requires c κs = search needs
 
-none-from-requires : tie.Need-none-from-requires
-none-from-requires c κs = search needs
+places-in-requires-2 : tie.Need-places-in-requires-2
+places-in-requires-2 c κs = search needs
 
 returns : tie.Need-returns
 returns c =
     let a = c .before .before .before .before .before .before .before .before .before .before .args in
     rw (
-      c .none-from .ensures,
-      c .before .users-in .ensures,
+      c .places-in2 .ensures,
+      c .before .places-in .ensures,
       c .before .before .first-in .ensures,
       c .before .before .before .before .before .before .users-end .ensures .0,
-    ) (slots-by (a .count) (a .kinds .now) (a .sizes .now) (a .locks .now))
+    ) (slots-by (a .count) _ _ (a .kinds .now) (a .sizes .now) (a .locks .now) (omega arith) (omega arith) (omega arith))
 
 pub slots-sound-spec : {M : Type 1} → statement M
 slots-sound-spec =
@@ -43,6 +44,6 @@ slots-sound-spec =
     shared-slice-read-first-in-2
     shared-slice-read-first-in-3
     first-in-requires
-    users-in-requires
-    none-from-requires
+    places-in-requires
+    places-in-requires-2
     returns)
