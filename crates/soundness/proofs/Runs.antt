@@ -2,7 +2,7 @@
 -- Assumes nothing.
 use Prim.Native.Nat.{ℕ, zero, suc, _+_, _*_, _≤_, _<_}
 use mathlib.Core.Path.{_≡_, refl, sym}
-use mathlib.Core.Bool.{Bool, true, false, not, _&&_, _||_, or-true}
+use mathlib.Core.Bool.{Bool, true, false, not, _&&_, _||_, or-true, or-false}
 use mathlib.Core.List.{List}
 use native.Mathlib.Omega.{arith}
 use borrow.Author.Tests.{le-leb, ltb-true, ltb-false, lt-ltb, le-ltb, not-true, eqb-true, eq-eqb}
@@ -13,16 +13,11 @@ use Rattle.soundness.specs.Sound.{noneIn, masterIn, userIn, firstIn, pla
 use Rattle.soundness.proofs.Laws.{all-below, each-below}
 use Rattle.soundness.proofs.Slots.{Slot, none, master, user, none-in, master-in, user-in, slot-of, slot-sound}
 
--- a user key by its type
-pub user-by : (kind size lock : ℕ)
-    → (((eqb kind 1 && (eqb size 16 || eqb size 32)) || (eqb kind 3 && (eqb size 28 || eqb size 44))) && leb lock 1) ≡ userIn kind size lock
-user-by kind size lock = go (eqb kind 1) (eqb kind 3) refl refl
-  where
-    go : (s t : Bool) → eqb kind 1 ≡ s → eqb kind 3 ≡ t
-        → (((eqb kind 1 && (eqb size 16 || eqb size 32)) || (eqb kind 3 && (eqb size 28 || eqb size 44))) && leb lock 1) ≡ userIn kind size lock
-    go true t p q = let k : kind ≡ 1 = eqb-true kind 1 p in rw k
-    go false true p q = let k : kind ≡ 3 = eqb-true kind 3 q in rw k
-    go false false p q = rw (p, q)
+-- a user key that is not encrypted
+pub plain-user : (kind size lock : ℕ) (t : Bool) → eqb kind 1 ≡ t → eqb kind 3 ≡ false
+    → ((eqb kind 1 || eqb kind 3) && (eqb size 16 || eqb size 32) && leb lock 1) ≡ userIn kind size lock
+plain-user kind size lock true e n = let k : kind ≡ 1 = eqb-true kind 1 e in rw (k, or-false (eqb size 16 || eqb size 32))
+plain-user kind size lock false e n = rw (e, n)
 
 -- tests that hold together are the same
 same : (a b : Bool) → (a ≡ true → b ≡ true) → (b ≡ true → a ≡ true) → a ≡ b

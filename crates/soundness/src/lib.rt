@@ -141,12 +141,12 @@ fn none_in(kind: u8, size: u8, lock: u8) -> bool
     (kind == 0) & (size == 0) & (lock == 0)
 }
 
-// By the type, which is fewer tests than `key_lawful`.
+// By the least size of the type, which is fewer tests than `key_lawful`.
 fn user_in(kind: u8, size: u8, lock: u8) -> bool
     ensures { λ r. ⌜ r ≡ userIn kind size lock ⌝ }
 {
-    (((kind == 1) & ((size == 16) | (size == 32))) | ((kind == 3) & ((size == 28) | (size == 44))))
-        & (lock <= 1)
+    let least = if kind == 3 { 28 } else { 16 };
+    ((kind == 1) | (kind == 3)) & ((size == least) | (size == least + 16)) & (lock <= 1)
 }
 
 // The master's slot.
