@@ -102,17 +102,15 @@ fn length_allowed(command: Command, n: u8) -> bool
     ensures { λ r. ⌜ r ≡ lengthAllowed command n ⌝ }
 {
     match command {
-        Command::GetState => n == 0,
-        Command::FwUpgrade => n == 0,
-        Command::FwDelete => n == 0,
         Command::UpdateAuthKey => n == 65,
-        Command::LockAuthKey => n == 0,
         Command::StoreUsrKey => 2 <= n,
-        Command::LoadUsrKey => n == 1,
-        Command::StartWs => n == 0,
-        Command::LockUsrKey => n == 1,
-        Command::UnloadUsrKey => n == 1,
-        Command::ActivateAntirollback => n == 0,
+        Command::LoadUsrKey | Command::LockUsrKey | Command::UnloadUsrKey => n == 1,
+        Command::GetState
+        | Command::FwUpgrade
+        | Command::FwDelete
+        | Command::LockAuthKey
+        | Command::StartWs
+        | Command::ActivateAntirollback => n == 0,
     }
 }
 

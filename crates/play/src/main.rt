@@ -6,8 +6,8 @@ mod say;
 mod state;
 
 use device::Device;
+use device::places::LENGTH;
 use input::Input;
-use layout::LENGTH;
 use script::Fault;
 use script::Order;
 
@@ -16,13 +16,13 @@ fn packet(rec: &mut [u8], flash: &mut [u8], line: &[u8], hex: usize) {
     let mut bytes = [0u8; 260];
     let n = script::packet_bytes(line, hex, &mut bytes);
     let mut reply = [0u8; 8];
-    let verdict = record::handle(rec, flash, &bytes[..n], &mut reply);
+    let verdict = services::handle(rec, flash, &bytes[..n], &mut reply);
     say::outcome(verdict, b"reply ", reply::next_message(b"", &reply));
 }
 
 fn restart(rec: &mut [u8]) {
     let mut event = [0u8; 6];
-    let verdict = record::restart(rec, &mut event);
+    let verdict = services::restart(rec, &mut event);
     say::outcome(verdict, b"event ", &event);
 }
 
@@ -30,7 +30,7 @@ fn restart(rec: &mut [u8]) {
 fn cut(rec: &mut [u8], flash: &mut [u8], filler: u8, through: bool) {
     let mut event = [0u8; 6];
     let filler = [filler; Device::SECTOR_SIZE];
-    let verdict = record::cut(rec, flash, &filler, through, &mut event);
+    let verdict = services::cut(rec, flash, &filler, through, &mut event);
     say::outcome(verdict, b"event ", &event);
 }
 
@@ -40,7 +40,7 @@ fn work(rec: &mut [u8], flash: &mut [u8], stores: usize) {
     let mut made = 0;
     let mut left = state::has_job(rec) as u32;
     while made < stores && 0 < left {
-        record::work(rec, flash, &mut left);
+        services::work(rec, flash, &mut left);
         made += 1;
     }
     say::made(made, left as usize);
@@ -48,7 +48,7 @@ fn work(rec: &mut [u8], flash: &mut [u8], stores: usize) {
 
 // The device and the flash as at the start.
 fn fresh(rec: &mut [u8], flash: &mut [u8]) {
-    record::fresh(rec);
+    services::fresh(rec);
     sectors::fill(flash, 0xFF);
     say::ok();
 }
@@ -133,7 +133,7 @@ fn erased_flash() -> [u8; bench::FLASH] {
 fn start(rec: &mut [u8], flash: &mut [u8]) {
     let mut text = input::room();
     let mut buffer = io::buffer();
-    record::fresh(rec);
+    services::fresh(rec);
     play(rec, flash, &mut text, &mut buffer);
 }
 

@@ -2,6 +2,8 @@
 use crate::say;
 use device::Head;
 use device::Mode;
+use device::fields;
+use device::places;
 
 // A job: the sectors that it has recorded, and the stores made in the next one.
 fn job(recorded: u32, made: u8) {
@@ -79,16 +81,14 @@ fn head(h: Head) {
 
 // Is there a job?
 pub fn has_job(rec: &[u8]) -> bool {
-    if rec.len() == layout::LENGTH {
-        let h = layout::read_head(rec);
-        let runs = h.mode;
-        return jobs::has_job(runs);
+    if rec.len() == places::LENGTH {
+        return fields::has_job(rec);
     }
     false
 }
 
 pub fn show(rec: &[u8]) {
-    if rec.len() == layout::LENGTH {
-        head(layout::read_head(rec));
+    if rec.len() == places::LENGTH {
+        head(fields::read_head(rec));
     }
 }

@@ -61,11 +61,14 @@ pub fn write_response(reply: &mut [u8], command: Command, status: u8, payload: u
     let opcode = packet::opcode_of(command);
     let low = (opcode % 256) as u8;
     let high = (opcode / 256) as u8;
+    // with no payload the eighth byte is the first of the zeros
+    let mut length = 4;
+    let mut last = 0;
     if has_payload(command) {
-        let message = [0x11, 0x0E, 5, 0xFF, low, high, status, payload];
-        return put(reply, 8, &message);
+        length = 5;
+        last = payload;
     }
-    let message = [0x11, 0x0E, 4, 0xFF, low, high, status];
+    let message = [0x11, 0x0E, length, 0xFF, low, high, status, last];
     put(reply, 8, &message)
 }
 

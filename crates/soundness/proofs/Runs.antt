@@ -2,32 +2,22 @@
 -- Assumes nothing.
 use Prim.Native.Nat.{ℕ, zero, suc, _+_, _*_, _≤_, _<_}
 use mathlib.Core.Path.{_≡_, refl, sym}
-use mathlib.Core.Bool.{Bool, true, false, not, _&&_, _||_, or-true}
+use mathlib.Core.Bool.{Bool, true, false, not, _&&_, _||_, or-true, or-false}
 use mathlib.Core.List.{List}
 use native.Mathlib.Omega.{arith}
-use borrow.Author.Tests.{leb-true, le-leb, ltb-true, ltb-false, lt-ltb, le-ltb, not-true, eqb-true, eq-eqb}
+use borrow.Author.Tests.{le-leb, ltb-true, ltb-false, lt-ltb, le-ltb, not-true, eqb-true, eq-eqb}
 use lib.Dec.{leb, ltb, eqb}
 use lib.ListN.{getD}
 use Rattle.basics.specs.Choice.{pick, both-true, and-left, and-right, or-either}
-use Rattle.keys.specs.Keys.{keyLawful}
 use Rattle.soundness.specs.Sound.{noneIn, masterIn, userIn, firstIn, placeIn, placeTest, usersEnd, slotTest, allBelow, slotsSound}
 use Rattle.soundness.proofs.Laws.{all-below, each-below}
-use Rattle.soundness.proofs.Slots.{Slot, none, master, user, slot-of, slot-sound}
+use Rattle.soundness.proofs.Slots.{Slot, none, master, user, none-in, master-in, user-in, slot-of, slot-sound}
 
--- a user key by its type
-pub user-by : (kind size lock : ℕ)
-    → (((eqb kind 1 && (eqb size 16 || eqb size 32)) || (eqb kind 3 && (eqb size 28 || eqb size 44))) && leb lock 1) ≡ userIn kind size lock
-user-by kind size lock = one (eqb kind 1) refl
-  where
-    three : (t : Bool) → eqb kind 1 ≡ false → eqb kind 3 ≡ t
-        → (((eqb kind 1 && (eqb size 16 || eqb size 32)) || (eqb kind 3 && (eqb size 28 || eqb size 44))) && leb lock 1) ≡ userIn kind size lock
-    three true n e = let k : kind ≡ 3 = eqb-true kind 3 e in rw k refl
-    three false n e = rw (n, e) refl
-
-    one : (t : Bool) → eqb kind 1 ≡ t
-        → (((eqb kind 1 && (eqb size 16 || eqb size 32)) || (eqb kind 3 && (eqb size 28 || eqb size 44))) && leb lock 1) ≡ userIn kind size lock
-    one true e = let k : kind ≡ 1 = eqb-true kind 1 e in rw k refl
-    one false e = three (eqb kind 3) e refl
+-- a user key that is not encrypted
+pub plain-user : (kind size lock : ℕ) (t : Bool) → eqb kind 1 ≡ t → eqb kind 3 ≡ false
+    → ((eqb kind 1 || eqb kind 3) && (eqb size 16 || eqb size 32) && leb lock 1) ≡ userIn kind size lock
+plain-user kind size lock true e n = let k : kind ≡ 1 = eqb-true kind 1 e in rw (k, or-false (eqb size 16 || eqb size 32))
+plain-user kind size lock false e n = rw (e, n)
 
 -- tests that hold together are the same
 same : (a b : Bool) → (a ≡ true → b ≡ true) → (b ≡ true → a ≡ true) → a ≡ b
@@ -36,14 +26,6 @@ same false true f g = g refl
 same false false f g = refl
 
 -- where the user keys end
-end-between : (count : ℕ) → (1 ≤ usersEnd count) × (usersEnd count ≤ 101)
-unfolding pick
-end-between count = go (ltb count 100) refl
-  where
-    go : (t : Bool) → ltb count 100 ≡ t → (1 ≤ pick t (count + 1) 101) × (pick t (count + 1) 101 ≤ 101)
-    go true e = let h : count < 100 = ltb-true count 100 e in (omega arith, omega arith)
-    go false e = (omega arith, omega arith)
-
 before-end : (count i : ℕ) → i < usersEnd count → i ≤ count
 unfolding pick
 before-end count i = go (ltb count 100) refl
@@ -78,25 +60,6 @@ module _ (i count kind size lock : ℕ) where
   none-of low high (master k law l q) = let z : ⊥ = omega arith in absurd z
   none-of low high (user k law l low₂ high₂) = let z : ⊥ = omega arith in absurd z
 
-  holds-none : (1 ≤ i → count < i) → noneIn kind size lock ≡ true → Slot i count kind size lock
-  holds-none h e =
-      let a = and-left (eqb kind 0 && eqb size 0) (eqb lock 0) e in
-      none (eqb-true kind 0 (and-left (eqb kind 0) (eqb size 0) a)) (eqb-true size 0 (and-right (eqb kind 0) (eqb size 0) a)) (eqb-true lock 0 (and-right (eqb kind 0 && eqb size 0) (eqb lock 0) e)) h
-
-  holds-first : i ≡ 0 → firstIn kind size lock ≡ true → Slot i count kind size lock
-  holds-first z e =
-      or-either (noneIn kind size lock) (masterIn kind size lock) e
-      (λ a. holds-none (λ low. let y : ⊥ = omega arith in absurd y) a)
-      (λ a.
-      let b = and-left (eqb kind 2 && keyLawful kind size) (eqb lock 0) a in
-      master (eqb-true kind 2 (and-left (eqb kind 2) (keyLawful kind size) b)) (and-right (eqb kind 2) (keyLawful kind size) b) (eqb-true lock 0 (and-right (eqb kind 2 && keyLawful kind size) (eqb lock 0) a)) z)
-
-  holds-user : 1 ≤ i → i ≤ count → userIn kind size lock ≡ true → Slot i count kind size lock
-  holds-user low high e =
-      let k = eqb kind 1 || eqb kind 3 in
-      let a = and-left (k && keyLawful kind size) (leb lock 1) e in
-      user (and-left k (keyLawful kind size) a) (and-right k (keyLawful kind size) a) (leb-true lock 1 (and-right (k && keyLawful kind size) (leb lock 1) e)) low high
-
 -- where a loop begins
 pub places-start : (from end : ℕ) (kinds sizes locks : List ℕ) → allBelow from (placeTest from end kinds sizes locks) ≡ true
 places-start from end kinds sizes locks = all-below from (placeTest from end kinds sizes locks) (λ i h. rw (lt-ltb i from h))
@@ -109,16 +72,16 @@ twice-below n m i e p q = go (ltb i e) refl
     go true h = let g : i < e = ltb-true i e h in lt-ltb n m (omega arith)
     go false h = let g : e ≤ i = ltb-false i e h in le-ltb n m (omega arith)
 
--- all slots
-module _ (count : ℕ) (kinds sizes locks : List ℕ) where
+-- all slots, by two loops: from 1 to `to`, and from `from` on
+module _ (count to from : ℕ) (kinds sizes locks : List ℕ) (low : 1 ≤ from) (meet : from ≤ to) (fit : to ≤ 101) where
   abbrev first : Bool
   first = firstIn (getD kinds 0 0) (getD sizes 0 0) (getD locks 0 0)
 
   abbrev many : Bool
-  many = allBelow 97 (placeTest 1 (usersEnd count) kinds sizes locks)
+  many = allBelow to (placeTest 1 (usersEnd count) kinds sizes locks)
 
   abbrev rest : Bool
-  rest = allBelow 101 (placeTest 85 (usersEnd count) kinds sizes locks)
+  rest = allBelow 101 (placeTest from (usersEnd count) kinds sizes locks)
 
   abbrev In : ℕ → Type 0
   In i = Slot i count (getD kinds i 0) (getD sizes i 0) (getD locks i 0)
@@ -127,10 +90,10 @@ module _ (count : ℕ) (kinds sizes locks : List ℕ) where
   Place i = placeIn i (usersEnd count) (getD kinds i 0) (getD sizes i 0) (getD locks i 0)
 
   place-of : (i : ℕ) (t : Bool) → ltb i (usersEnd count) ≡ t → 1 ≤ i → i < 101 → In i → Place i ≡ true
-  place-of i true e low h s =
-      let u = user-of i count (getD kinds i 0) (getD sizes i 0) (getD locks i 0) low (before-end count i (ltb-true i (usersEnd count) e)) s in rw (e, u)
-  place-of i false e low h s =
-      let u = none-of i count (getD kinds i 0) (getD sizes i 0) (getD locks i 0) low (from-end count i h (ltb-false i (usersEnd count) e)) s in rw (e, u)
+  place-of i true e one h s =
+      let u = user-of i count (getD kinds i 0) (getD sizes i 0) (getD locks i 0) one (before-end count i (ltb-true i (usersEnd count) e)) s in rw (e, u)
+  place-of i false e one h s =
+      let u = none-of i count (getD kinds i 0) (getD sizes i 0) (getD locks i 0) one (from-end count i h (ltb-false i (usersEnd count) e)) s in rw (e, u)
 
   place-holds : (from i : ℕ) (t : Bool) → ltb i from ≡ t → 1 ≤ from → i < 101 → In i → placeTest from (usersEnd count) kinds sizes locks i ≡ true
   place-holds from i true e low h s = rw e
@@ -146,38 +109,44 @@ module _ (count : ℕ) (kinds sizes locks : List ℕ) where
       both-true (first && many) rest
       (both-true first many
       (first-of 0 count (getD kinds 0 0) (getD sizes 0 0) (getD locks 0 0) refl (each 0 (omega arith)))
-      (all-below 97 (placeTest 1 (usersEnd count) kinds sizes locks) (λ i h. place-holds 1 i (ltb i 1) refl (omega arith) (omega arith) (each i (omega arith)))))
-      (all-below 101 (placeTest 85 (usersEnd count) kinds sizes locks) (λ i h. place-holds 85 i (ltb i 85) refl (omega arith) h (each i h)))
+      (all-below to (placeTest 1 (usersEnd count) kinds sizes locks) (λ i h. place-holds 1 i (ltb i 1) refl (omega arith) (omega arith) (each i (omega arith)))))
+      (all-below 101 (placeTest from (usersEnd count) kinds sizes locks) (λ i h. place-holds from i (ltb i from) refl (omega arith) h (each i h)))
 
   holds-place : (i : ℕ) → 1 ≤ i → i < 101 → Place i ≡ true → In i
-  holds-place i low h e =
+  holds-place i one h e =
       let u = userIn (getD kinds i 0) (getD sizes i 0) (getD locks i 0) in
       let n = noneIn (getD kinds i 0) (getD sizes i 0) (getD locks i 0) in
       let t = ltb i (usersEnd count) in
       or-either (t && u) (not t && n) e
-      (λ z. holds-user i count (getD kinds i 0) (getD sizes i 0) (getD locks i 0) low (before-end count i (ltb-true i (usersEnd count) (and-left t u z))) (and-right t u z))
-      (λ z. holds-none i count (getD kinds i 0) (getD sizes i 0) (getD locks i 0) (λ g. from-end count i h (ltb-false i (usersEnd count) (not-true t (and-left (not t) n z)))) (and-right (not t) n z))
+      (λ z. user-in i count (getD kinds i 0) (getD sizes i 0) (getD locks i 0) (and-right t u z) one (before-end count i (ltb-true i (usersEnd count) (and-left t u z))))
+      (λ z. none-in i count (getD kinds i 0) (getD sizes i 0) (getD locks i 0) (and-right (not t) n z) (λ g. from-end count i h (ltb-false i (usersEnd count) (not-true t (and-left (not t) n z)))))
 
-  beyond : (from i : ℕ) → from ≤ i → 1 ≤ i → i < 101 → placeTest from (usersEnd count) kinds sizes locks i ≡ true → In i
-  beyond from i g low h e =
-      or-either (ltb i from) (Place i) e
-      (λ z. let q : i < from = ltb-true i from z in let y : ⊥ = omega arith in absurd y)
-      (holds-place i low h)
+  holds-first : first ≡ true → In 0
+  holds-first e =
+      or-either (noneIn (getD kinds 0 0) (getD sizes 0 0) (getD locks 0 0)) (masterIn (getD kinds 0 0) (getD sizes 0 0) (getD locks 0 0)) e
+      (λ a. none-in 0 count (getD kinds 0 0) (getD sizes 0 0) (getD locks 0 0) a (λ low. let y : ⊥ = omega arith in absurd y))
+      (λ a. master-in 0 count (getD kinds 0 0) (getD sizes 0 0) (getD locks 0 0) a refl)
 
-  holds : (i : ℕ) (t : Bool) → ltb i 97 ≡ t → i < 101 → first ≡ true → many ≡ true → rest ≡ true → In i
-  holds zero t e h f u r = holds-first 0 count (getD kinds 0 0) (getD sizes 0 0) (getD locks 0 0) refl f
+  beyond : (at i : ℕ) → at ≤ i → 1 ≤ i → i < 101 → placeTest at (usersEnd count) kinds sizes locks i ≡ true → In i
+  beyond at i g one h e =
+      or-either (ltb i at) (Place i) e
+      (λ z. let q : i < at = ltb-true i at z in let y : ⊥ = omega arith in absurd y)
+      (holds-place i one h)
+
+  holds : (i : ℕ) (t : Bool) → ltb i to ≡ t → i < 101 → first ≡ true → many ≡ true → rest ≡ true → In i
+  holds zero t e h f u r = holds-first f
   holds (suc n) true e h f u r =
-      beyond 1 (suc n) (omega arith) (omega arith) h (each-below 97 (placeTest 1 (usersEnd count) kinds sizes locks) u (suc n) (ltb-true (suc n) 97 e))
+      beyond 1 (suc n) (omega arith) (omega arith) h (each-below to (placeTest 1 (usersEnd count) kinds sizes locks) u (suc n) (ltb-true (suc n) to e))
   holds (suc n) false e h f u r =
-      let g : 97 ≤ suc n = ltb-false (suc n) 97 e in
-      beyond 85 (suc n) (omega arith) (omega arith) h (each-below 101 (placeTest 85 (usersEnd count) kinds sizes locks) r (suc n) h)
+      let g : to ≤ suc n = ltb-false (suc n) to e in
+      beyond from (suc n) (omega arith) (omega arith) h (each-below 101 (placeTest from (usersEnd count) kinds sizes locks) r (suc n) h)
 
   joined : (first && many && rest) ≡ true → slotsSound count kinds sizes locks ≡ true
   unfolding slotsSound
   joined e =
       let a = and-left (first && many) rest e in
       all-below 101 (slotTest count kinds sizes locks)
-      (λ i h. slot-sound i count (getD kinds i 0) (getD sizes i 0) (getD locks i 0) (holds i (ltb i 97) refl h (and-left first many a) (and-right first many a) (and-right (first && many) rest e)))
+      (λ i h. slot-sound i count (getD kinds i 0) (getD sizes i 0) (getD locks i 0) (holds i (ltb i to) refl h (and-left first many a) (and-right first many a) (and-right (first && many) rest e)))
 
   pub slots-by : (first && many && rest) ≡ slotsSound count kinds sizes locks
   slots-by = same (first && many && rest) (slotsSound count kinds sizes locks) joined parted

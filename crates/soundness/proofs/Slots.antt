@@ -7,7 +7,7 @@ use borrow.Author.Tests.{leb-true, le-leb, ltb-true, lt-ltb, eqb-true, eq-eqb}
 use lib.Dec.{leb, ltb, eqb}
 use Rattle.basics.specs.Choice.{and-left, and-right, or-either}
 use Rattle.keys.specs.Keys.{keyLawful}
-use Rattle.soundness.specs.Sound.{slotSound}
+use Rattle.soundness.specs.Sound.{noneIn, masterIn, userIn, slotSound}
 
 -- a slot holds nothing, the master, or a user key
 pub data Slot (i count kind size lock : ℕ) : Type 0 where
@@ -26,37 +26,46 @@ out-of i count e h =
     (λ z. ltb-true count i z)
 
 module _ (i count kind size lock : ℕ) where
+  -- what a slot holds, by its test
+  pub none-in : noneIn kind size lock ≡ true → (1 ≤ i → count < i) → Slot i count kind size lock
+  none-in e h =
+      let a = and-left (eqb kind 0 && eqb size 0) (eqb lock 0) e in
+      none (eqb-true kind 0 (and-left (eqb kind 0) (eqb size 0) a)) (eqb-true size 0 (and-right (eqb kind 0) (eqb size 0) a)) (eqb-true lock 0 (and-right (eqb kind 0 && eqb size 0) (eqb lock 0) e)) h
+
+  pub master-in : masterIn kind size lock ≡ true → i ≡ 0 → Slot i count kind size lock
+  master-in e z =
+      let a = and-left (eqb kind 2 && keyLawful kind size) (eqb lock 0) e in
+      master (eqb-true kind 2 (and-left (eqb kind 2) (keyLawful kind size) a)) (and-right (eqb kind 2) (keyLawful kind size) a) (eqb-true lock 0 (and-right (eqb kind 2 && keyLawful kind size) (eqb lock 0) e)) z
+
+  pub user-in : userIn kind size lock ≡ true → 1 ≤ i → i ≤ count → Slot i count kind size lock
+  user-in e low high =
+      let k = eqb kind 1 || eqb kind 3 in
+      let a = and-left (k && keyLawful kind size) (leb lock 1) e in
+      user (and-left k (keyLawful kind size) a) (and-right k (keyLawful kind size) a) (leb-true lock 1 (and-right (k && keyLawful kind size) (leb lock 1) e)) low high
+
+  -- with the test of its place
   abbrev noneTest : Bool
-  noneTest = eqb kind 0 && eqb size 0 && eqb lock 0 && (eqb i 0 || ltb count i)
+  noneTest = noneIn kind size lock && (eqb i 0 || ltb count i)
 
   abbrev masterTest : Bool
-  masterTest = eqb kind 2 && keyLawful kind size && eqb lock 0 && eqb i 0
+  masterTest = masterIn kind size lock && eqb i 0
 
   abbrev userTest : Bool
-  userTest = (eqb kind 1 || eqb kind 3) && keyLawful kind size && leb lock 1 && leb 1 i && leb i count
-
-  is-none : noneTest ≡ true → Slot i count kind size lock
-  is-none e =
-      let a = and-left (eqb kind 0 && eqb size 0 && eqb lock 0) (eqb i 0 || ltb count i) e in
-      let b = and-left (eqb kind 0 && eqb size 0) (eqb lock 0) a in
-      none (eqb-true kind 0 (and-left (eqb kind 0) (eqb size 0) b)) (eqb-true size 0 (and-right (eqb kind 0) (eqb size 0) b)) (eqb-true lock 0 (and-right (eqb kind 0 && eqb size 0) (eqb lock 0) a)) (out-of i count (and-right (eqb kind 0 && eqb size 0 && eqb lock 0) (eqb i 0 || ltb count i) e))
-
-  is-master : masterTest ≡ true → Slot i count kind size lock
-  is-master e =
-      let a = and-left (eqb kind 2 && keyLawful kind size && eqb lock 0) (eqb i 0) e in
-      let b = and-left (eqb kind 2 && keyLawful kind size) (eqb lock 0) a in
-      master (eqb-true kind 2 (and-left (eqb kind 2) (keyLawful kind size) b)) (and-right (eqb kind 2) (keyLawful kind size) b) (eqb-true lock 0 (and-right (eqb kind 2 && keyLawful kind size) (eqb lock 0) a)) (eqb-true i 0 (and-right (eqb kind 2 && keyLawful kind size && eqb lock 0) (eqb i 0) e))
-
-  is-user : userTest ≡ true → Slot i count kind size lock
-  is-user e =
-      let k = eqb kind 1 || eqb kind 3 in
-      let a = and-left (k && keyLawful kind size && leb lock 1 && leb 1 i) (leb i count) e in
-      let b = and-left (k && keyLawful kind size && leb lock 1) (leb 1 i) a in
-      let d = and-left (k && keyLawful kind size) (leb lock 1) b in
-      user (and-left k (keyLawful kind size) d) (and-right k (keyLawful kind size) d) (leb-true lock 1 (and-right (k && keyLawful kind size) (leb lock 1) b)) (leb-true 1 i (and-right (k && keyLawful kind size && leb lock 1) (leb 1 i) a)) (leb-true i count (and-right (k && keyLawful kind size && leb lock 1 && leb 1 i) (leb i count) e))
+  userTest = userIn kind size lock && leb 1 i && leb i count
 
   pub slot-of : slotSound i count kind size lock ≡ true → Slot i count kind size lock
-  slot-of e = or-either (noneTest || masterTest) userTest e (λ a. or-either noneTest masterTest a is-none is-master) is-user
+  slot-of e =
+      let n = noneIn kind size lock in
+      let m = masterIn kind size lock in
+      let u = userIn kind size lock in
+      or-either (noneTest || masterTest) userTest e
+      (λ a.
+      or-either noneTest masterTest a
+      (λ b. none-in (and-left n (eqb i 0 || ltb count i) b) (out-of i count (and-right n (eqb i 0 || ltb count i) b)))
+      (λ b. master-in (and-left m (eqb i 0) b) (eqb-true i 0 (and-right m (eqb i 0) b))))
+      (λ a.
+      let b = and-left (u && leb 1 i) (leb i count) a in
+      user-in (and-left u (leb 1 i) b) (leb-true 1 i (and-right u (leb 1 i) b)) (leb-true i count (and-right (u && leb 1 i) (leb i count) a)))
 
   pub slot-sound : Slot i count kind size lock → slotSound i count kind size lock ≡ true
   slot-sound (none k s l h) =

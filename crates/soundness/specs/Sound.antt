@@ -114,7 +114,7 @@ slotTest count kinds sizes locks i = slotSound i count (getD kinds i 0) (getD si
 unfoldable pub slotsSound : ℕ → List ℕ → List ℕ → List ℕ → Bool
 slotsSound count kinds sizes locks = allBelow 101 (slotTest count kinds sizes locks)
 
--- the same in the order in which the code goes: the master's slot, the slots below `end`, and those from there on
+-- the same in the order in which the code goes: the master's slot, then the slots from `from` on, of which those below `end` hold user keys
 abbrev pub firstIn : ℕ → ℕ → ℕ → Bool
 firstIn kind size lock = noneIn kind size lock || masterIn kind size lock
 

@@ -71,7 +71,7 @@ fn error_sound(error: u8, idle: bool) -> bool
     ensures { λ r. ⌜ r ≡ errorSound error idle ⌝ }
 {
     (error == 0)
-        | (idle
+        || (idle
             & ((error == 0x01)
                 | (error == 0x02)
                 | (error == 0x03)
@@ -147,10 +147,10 @@ fn head_sound(h: Head, size: usize, top: usize) -> bool
     ensures { λ r. ⌜ r ≡ headSound size top h ⌝ }
 {
     let mode = h.mode;
-    stack_sound(h, top)
-        & parts_sound(h, stack_runs(mode))
-        & error_sound(h.error, is_idle(mode))
-        & mode_sound(size, top, mode, h.present, h.boundary, h.made)
+    // two tests end early, this one and that of the error: with more of them it is no faster
+    (stack_sound(h, top) & parts_sound(h, stack_runs(mode)))
+        && (error_sound(h.error, is_idle(mode))
+            & mode_sound(size, top, mode, h.present, h.boundary, h.made))
 }
 
 fn none_in(kind: u8, size: u8, lock: u8) -> bool
@@ -159,12 +159,12 @@ fn none_in(kind: u8, size: u8, lock: u8) -> bool
     (kind == 0) & (size == 0) & (lock == 0)
 }
 
-// By the type, which is fewer tests than `key_lawful`.
+// By the least size of the type, which is fewer tests than `key_lawful`.
 fn user_in(kind: u8, size: u8, lock: u8) -> bool
     ensures { λ r. ⌜ r ≡ userIn kind size lock ⌝ }
 {
-    (((kind == 1) & ((size == 16) | (size == 32))) | ((kind == 3) & ((size == 28) | (size == 44))))
-        & (lock <= 1)
+    let least = if kind == 3 { 28 } else { 16 };
+    ((kind == 1) | (kind == 3)) & ((size == least) | (size == least + 16)) & (lock <= 1)
 }
 
 // The master's slot.

@@ -1,6 +1,6 @@
-use mathlib.Core.Path.{ap, _∙_}
+use mathlib.Core.Path.{_∙_}
+use mathlib.Core.Logic.{⊎-elim}
 use borrow.Author.Needs.{needs}
-use Rattle.reply.specs.Replies.{replied}
 use Rattle.reply.proofs.Laws.{with-payload, without-payload}
 use Rattle.reply.proofs.write_response.Statement.{statement}
 use Rattle.reply.proofs.write_response.Tie as tie
@@ -28,20 +28,15 @@ same-length c = search needs
 
 returns : tie.Need-returns
 returns c =
-    (c .before .before .put .ensures .0, c .before .before .put .ensures .1 ∙ ap (replied 8 _) (with-payload _ _ _ (c .before .before .before .before .before .before .before .opcode-of .ensures) (c .before .before .before .before .before .before .has-payload .ensures) (c .before .before .before .before .before .if1 .taken)))
-
-slice-aggregate-put-2 : tie.Need-slice-aggregate-put-2
-slice-aggregate-put-2 c = search needs
-
-put-requires-2 : tie.Need-put-requires-2
-put-requires-2 c κs = search needs
-
-same-length-2 : tie.Need-same-length-2
-same-length-2 c = search needs
-
-returns-2 : tie.Need-returns-2
-returns-2 c =
-    (c .before .before .put2 .ensures .0, c .before .before .put2 .ensures .1 ∙ ap (replied 8 _) (without-payload _ _ _ (c .before .before .before .before .before .before .before .opcode-of .ensures) (c .before .before .before .before .before .before .has-payload .ensures) (c .before .before .before .before .before .if1 .left)))
+    let put = c .before .before .put .ensures in
+    let opcode = c .before .before .before .before .before .before .before .opcode-of .ensures in
+    let more = c .before .before .before .before .before .before .has-payload .ensures in (
+      put .0,
+      put .1 ∙ ⊎-elim
+          (λ w. rw (w .1, w .2) (with-payload _ _ _ _ opcode more (w .0 .taken)))
+          (λ w. rw (w .1, w .2) (without-payload _ _ _ _ opcode more (w .0 .left)))
+          (c .before .before .before .before .before .if1 .came),
+    )
 
 pub write-response-spec : {M : Type 1} → statement M
 write-response-spec =
@@ -54,8 +49,4 @@ write-response-spec =
     slice-aggregate-put
     put-requires
     same-length
-    returns
-    slice-aggregate-put-2
-    put-requires-2
-    same-length-2
-    returns-2)
+    returns)

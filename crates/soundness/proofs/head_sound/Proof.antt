@@ -1,5 +1,5 @@
-use Rattle.soundness.specs.Sound.{headSound}
 use borrow.Author.Needs.{needs}
+use Rattle.soundness.specs.Sound.{headSound}
 use Rattle.soundness.proofs.head_sound.Statement.{statement}
 use Rattle.soundness.proofs.head_sound.Tie as tie
 
@@ -25,12 +25,18 @@ returns : tie.Need-returns
 unfolding headSound
 returns c =
     rw (
-      c .before .before .before .before .before .stack-sound .ensures,
-      c .before .before .before .parts-sound .ensures,
-      c .before .before .before .before .stack-runs .ensures,
+      rw (c .before .before .before .before .before .before .stack-sound .ensures, c .before .before .before .before .parts-sound .ensures, c .before .before .before .before .before .stack-runs .ensures) at (c .before .before .before .if1 .taken),
       c .before .error-sound .ensures,
       c .before .before .is-idle .ensures,
       c .mode-sound .ensures,
+    )
+
+returns-2 : tie.Need-returns-2
+unfolding headSound
+returns-2 c =
+    rw (
+      c .if1 .left,
+      rw (c .before .before .before .stack-sound .ensures, c .before .parts-sound .ensures, c .before .before .stack-runs .ensures) at (c .if1 .left),
     )
 
 pub head-sound-spec : {M : Type 1} → statement M
@@ -43,4 +49,5 @@ head-sound-spec =
     is-idle-requires
     error-sound-requires
     mode-sound-requires
-    returns)
+    returns
+    returns-2)

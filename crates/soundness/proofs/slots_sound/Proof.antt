@@ -1,3 +1,4 @@
+use native.Mathlib.Omega.{arith}
 use borrow.Author.Needs.{needs}
 use Rattle.soundness.proofs.Runs.{slots-by}
 use Rattle.soundness.proofs.slots_sound.Statement.{statement}
@@ -32,7 +33,7 @@ returns c =
       c .before .places-in .ensures,
       c .before .before .first-in .ensures,
       c .before .before .before .before .before .before .users-end .ensures .0,
-    ) (slots-by (a .count) (a .kinds .now) (a .sizes .now) (a .locks .now))
+    ) (slots-by (a .count) _ _ (a .kinds .now) (a .sizes .now) (a .locks .now) (omega arith) (omega arith) (omega arith))
 
 pub slots-sound-spec : {M : Type 1} → statement M
 slots-sound-spec =
