@@ -258,8 +258,8 @@ pub fn is_sound(rec: &[u8], size: usize, top: usize) -> bool
     }
     let h = fields::read_head(rec);
     fields::is_head(rec)
-        & (head_sound(h, size, top)
-            & keys_sound(
+        && (head_sound(h, size, top)
+            && keys_sound(
                 h.count,
                 h.loaded,
                 &rec[places::KINDS..places::SIZES],

@@ -1,6 +1,11 @@
+use mathlib.Core.Path.{_≡_}
+use mathlib.Core.Bool.{true, false}
+use lib.Dec.{eqb}
+use lib.ListN.{length}
 use borrow.Author.Tests.{eq-eqb, ne-eqb}
-use Rattle.soundness.specs.Sound.{sound, soundRecord}
-use Rattle.device.specs.Layout.{decode}
+use Rattle.basics.specs.Choice.{via}
+use Rattle.device.specs.Layout.{recordLength, isHead, headIn, decode}
+use Rattle.soundness.specs.Sound.{headSound, sound, soundRecord}
 use borrow.Author.Needs.{needs}
 use Rattle.soundness.proofs.is_sound.Statement.{statement}
 use Rattle.soundness.proofs.is_sound.Tie as tie
@@ -50,14 +55,31 @@ keys-sound-requires c κs = search needs
 
 returns-2 : tie.Need-returns-2
 unfolding soundRecord sound decode
-returns-2 c =
-    rw (
-      eq-eqb _ _ (c .before .before .before .before .before .before .before .if1 .left),
-      c .before .before .before .before .before .is-head .ensures,
-      c .before .before .before .before .head-sound .ensures,
-      c .keys-sound .ensures,
-      c .before .before .before .before .before .before .read-head .ensures,
-    )
+returns-2 c = 
+    let l = c .before .before .before .before .before .before .before .before .before .before .before .args .rec .now in
+    let n : eqb (length l) recordLength ≡ true = eq-eqb _ _ (c .before .before .before .before .before .before .before .before .before .if1 .left) in
+    let h : isHead l ≡ true = via _ _ _ (c .before .before .before .before .before .before .before .is-head .ensures) (c .before .before .before .before .before .before .if2 .taken) in
+    let a = c .before .before .before .before .before .before .before .before .before .before .before .args in
+    let s : headSound (a .size) (a .top) (headIn l) ≡ true = rw (c .before .before .before .before .before .before .before .before .read-head .ensures) at (via _ _ _ (c .before .before .before .before .before .head-sound .ensures) (c .before .before .before .before .if3 .taken)) in
+    rw (n, h, s, c .keys-sound .ensures, c .before .before .before .before .before .before .before .before .read-head .ensures)
+
+returns-3 : tie.Need-returns-3
+unfolding soundRecord sound decode
+returns-3 c = 
+    let l = c .before .before .before .before .before .before .before .args .rec .now in
+    let n : eqb (length l) recordLength ≡ true = eq-eqb _ _ (c .before .before .before .before .before .if1 .left) in
+    let h : isHead l ≡ true = via _ _ _ (c .before .before .before .is-head .ensures) (c .before .before .if2 .taken) in
+    let a = c .before .before .before .before .before .before .before .args in
+    let s : headSound (a .size) (a .top) (headIn l) ≡ false = rw (c .before .before .before .before .read-head .ensures) at (via _ _ _ (c .before .head-sound .ensures) (c .if3 .left)) in
+    rw (c .if3 .left, n, h, s)
+
+returns-4 : tie.Need-returns-4
+unfolding soundRecord
+returns-4 c = 
+    let l = c .before .before .before .before .before .args .rec .now in
+    let n : eqb (length l) recordLength ≡ true = eq-eqb _ _ (c .before .before .before .if1 .left) in
+    let h : isHead l ≡ false = via _ _ _ (c .before .is-head .ensures) (c .if2 .left) in
+    rw (c .if2 .left, n, h)
 
 pub is-sound-spec : {M : Type 1} → statement M
 is-sound-spec =
@@ -77,4 +99,6 @@ is-sound-spec =
     part-keys-sound-start-3
     part-keys-sound-end-3
     keys-sound-requires
-    returns-2)
+    returns-2
+    returns-3
+    returns-4)
