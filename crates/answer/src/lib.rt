@@ -55,26 +55,22 @@ pub fn error_of(failure: Failure) -> u8
     ensures { λ r. ⌜ r ≡ errorOf failure ⌝ }
 {
     match failure {
-        Failure::StackRuns => 0,
-        Failure::JobUnderWay => 0,
-        Failure::NoStack => 0x01,
-        Failure::NoImage => 0x01,
-        Failure::BadHeader => 0x02,
+        Failure::StackRuns | Failure::JobUnderWay => 0,
+        Failure::NoStack | Failure::NoImage => 0x01,
+        Failure::BadHeader | Failure::WrongSum => 0x02,
+        Failure::NotSealed | Failure::WrongTag => 0x03,
         Failure::NoRoom => 0x04,
-        Failure::WrongSum => 0x02,
-        Failure::NotSealed => 0x03,
-        Failure::WrongTag => 0x03,
-        Failure::UnderFloor => 0x11,
         Failure::AuthLocked => 0x0A,
-        Failure::NoAuthKey => 0xFF,
-        Failure::BadType => 0xFF,
-        Failure::BadSize => 0xFF,
-        Failure::SecondMaster => 0xFF,
-        Failure::StoreFull => 0xFF,
-        Failure::NotStored => 0xFF,
-        Failure::KeyLocked => 0xFF,
-        Failure::NoMaster => 0xFF,
-        Failure::NotLoaded => 0xFF,
+        Failure::UnderFloor => 0x11,
+        Failure::NoAuthKey
+        | Failure::BadType
+        | Failure::BadSize
+        | Failure::SecondMaster
+        | Failure::StoreFull
+        | Failure::NotStored
+        | Failure::KeyLocked
+        | Failure::NoMaster
+        | Failure::NotLoaded => 0xFF,
     }
 }
 
