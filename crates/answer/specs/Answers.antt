@@ -40,3 +40,33 @@ payloadOf (State state error) = error
 payloadOf (Stored index) = index
 payloadOf Accepted = 0x00
 payloadOf (Failed failure) = 0xFF
+
+-- paper 02 §2, why a key was turned down: bad type, bad size, second master, store full; not stored, locked, no master; not loaded. Any other
+-- answer has no reason. 9 is kept for "no key services" (§1), 10 for "master missing" (§6)
+abbrev pub reasonOf : Failure → ℕ
+reasonOf StackRuns = 0
+reasonOf JobUnderWay = 0
+reasonOf NoStack = 0
+reasonOf NoImage = 0
+reasonOf BadHeader = 0
+reasonOf NoRoom = 0
+reasonOf WrongSum = 0
+reasonOf NotSealed = 0
+reasonOf WrongTag = 0
+reasonOf UnderFloor = 0
+reasonOf AuthLocked = 0
+reasonOf NoAuthKey = 0
+reasonOf BadType = 1
+reasonOf BadSize = 2
+reasonOf SecondMaster = 3
+reasonOf StoreFull = 4
+reasonOf NotStored = 5
+reasonOf KeyLocked = 6
+reasonOf NoMaster = 7
+reasonOf NotLoaded = 8
+
+abbrev pub reasonIn : Answer → ℕ
+reasonIn (State state error) = 0
+reasonIn (Stored index) = 0
+reasonIn Accepted = 0
+reasonIn (Failed failure) = reasonOf failure

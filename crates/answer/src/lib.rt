@@ -1,6 +1,6 @@
 // What FUS answers to a lawful command, and why it fails one.
 ghost use mathlib.Core.Path.{_≡_};
-ghost use Rattle.answer.specs.Answers.{errorOf, statusOf, payloadOf};
+ghost use Rattle.answer.specs.Answers.{errorOf, statusOf, payloadOf, reasonOf, reasonIn};
 
 // Every way in which a lawful command fails.
 pub enum Failure {
@@ -95,5 +95,45 @@ pub fn payload_of(answer: Answer) -> u8
         Answer::Stored { index } => index,
         Answer::Accepted => 0x00,
         Answer::Failed(_) => 0xFF,
+    }
+}
+
+// Why a key was turned down, as a number; 0 for a failure that has no reason.
+fn reason_of(failure: Failure) -> u8
+    ensures { λ r. ⌜ r ≡ reasonOf failure ⌝ }
+{
+    match failure {
+        Failure::BadType => 1,
+        Failure::BadSize => 2,
+        Failure::SecondMaster => 3,
+        Failure::StoreFull => 4,
+        Failure::NotStored => 5,
+        Failure::KeyLocked => 6,
+        Failure::NoMaster => 7,
+        Failure::NotLoaded => 8,
+        Failure::StackRuns
+        | Failure::JobUnderWay
+        | Failure::NoStack
+        | Failure::NoImage
+        | Failure::BadHeader
+        | Failure::NoRoom
+        | Failure::WrongSum
+        | Failure::NotSealed
+        | Failure::WrongTag
+        | Failure::UnderFloor
+        | Failure::AuthLocked
+        | Failure::NoAuthKey => 0,
+    }
+}
+
+// The reason beside an answer: 0 for none.
+pub fn reason_in(answer: Answer) -> u8
+    ensures { λ r. ⌜ r ≡ reasonIn answer ⌝ }
+{
+    match answer {
+        Answer::State { state: _, error: _ } => 0,
+        Answer::Stored { index: _ } => 0,
+        Answer::Accepted => 0,
+        Answer::Failed(failure) => reason_of(failure),
     }
 }

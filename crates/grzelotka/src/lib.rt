@@ -71,7 +71,30 @@ pub extern "C" fn grzelotka_handle(
     ensures { λ _. ⌜ now (flash .exit) ≡ handledInPlace first (now (rec .entry)) (now (flash .entry)) (now (packet .entry)) (now (reply .entry)) .flash ⌝ }
     ensures { λ _. ⌜ now (reply .exit) ≡ handledInPlace first (now (rec .entry)) (now (flash .entry)) (now (packet .entry)) (now (reply .entry)) .reply ⌝ }
 {
-    number_for(services::handle(rec, flash, packet, reply))
+    let told = services::handle(rec, flash, packet, reply);
+    let verdict = told.verdict;
+    number_for(verdict)
+}
+
+// The same, and beside the reply why a key was turned down: 0 for no reason.
+#[no_mangle]
+pub extern "C" fn grzelotka_handle_why(
+    rec: &mut [u8],
+    flash: &mut [u8],
+    packet: &[u8],
+    reply: &mut [u8],
+    reason: &mut u8,
+) -> u8
+    ensures { λ r. ⌜ r ≡ numberFor (handledInPlace first (now (rec .entry)) (now (flash .entry)) (now (packet .entry)) (now (reply .entry)) .verdict) ⌝ }
+    ensures { λ _. ⌜ now (rec .exit) ≡ handledInPlace first (now (rec .entry)) (now (flash .entry)) (now (packet .entry)) (now (reply .entry)) .bytes ⌝ }
+    ensures { λ _. ⌜ now (flash .exit) ≡ handledInPlace first (now (rec .entry)) (now (flash .entry)) (now (packet .entry)) (now (reply .entry)) .flash ⌝ }
+    ensures { λ _. ⌜ now (reply .exit) ≡ handledInPlace first (now (rec .entry)) (now (flash .entry)) (now (packet .entry)) (now (reply .entry)) .reply ⌝ }
+    ensures { λ _. ⌜ now (reason .exit) ≡ handledInPlace first (now (rec .entry)) (now (flash .entry)) (now (packet .entry)) (now (reply .entry)) .reason ⌝ }
+{
+    let told = services::handle(rec, flash, packet, reply);
+    *reason = told.reason;
+    let verdict = told.verdict;
+    number_for(verdict)
 }
 
 #[no_mangle]

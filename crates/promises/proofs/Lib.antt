@@ -7,3 +7,4 @@ pub mod Kept
 pub mod Refusals
 pub mod Begins
 pub mod Once
+pub mod Reasons

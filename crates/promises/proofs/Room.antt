@@ -50,11 +50,11 @@ module _ {F : List ℕ} {p size version : ℕ} (sized : length F ≡ flashLength
   lent-so = eq-eqb _ _ sized
 
   pub fresh-taken : roomFor sectorSize p size fusSector ≡ true
-      → handled first freshDevice F askUpgrade (zeros 8) ≡ handleResult Taken (withHead (withMode (Upgrade p size version 0) freshHead) freshDevice) F (replyUpgrade 0x00)
+      → handled first freshDevice F askUpgrade (zeros 8) ≡ handleResult Taken (withHead (withMode (Upgrade p size version 0) freshHead) freshDevice) F (replyUpgrade 0x00) 0
   unfolding handled gated sound headSound slotsSound allBelow freshDevice zeros readOf commandOf pick replied response decidedOn
   fresh-taken e = rw (lent-so, taken h e)
 
   pub fresh-no-room : roomFor sectorSize p size fusSector ≡ false
-      → handled first freshDevice F askUpgrade (zeros 8) ≡ handleResult Taken (withHead (withError 0x04 freshHead) freshDevice) F (replyUpgrade 0x01)
+      → handled first freshDevice F askUpgrade (zeros 8) ≡ handleResult Taken (withHead (withError 0x04 freshHead) freshDevice) F (replyUpgrade 0x01) 0
   unfolding handled gated sound headSound slotsSound allBelow freshDevice zeros readOf commandOf pick replied response decidedOn
   fresh-no-room e = rw (lent-so, no-room h e)

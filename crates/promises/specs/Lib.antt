@@ -2,3 +2,4 @@ pub mod Cases
 pub mod Image
 pub mod Demand
 pub mod Refusals
+pub mod Reasons

@@ -71,7 +71,7 @@ module _ (k : Numbers) (l : List ℕ) (s : soundFor k l ≡ true) where
     held-in = record { size = record-length (k .size) (k .top) l s; same = sym unchanged }
 
     -- a refused call gives them back
-    pub refused-in : (r : Refusal) (F R : List ℕ) → handlePlaced (Refused r) l F (zeros (length R)) ≡ handleInBytes (handleRefused (decode l) F R r)
+    pub refused-in : (r : Refusal) (F R : List ℕ) → handlePlaced (Refused r) l F (zeros (length R)) 0 ≡ handleInBytes (handleRefused (decode l) F R r)
     refused-in r F R = rw unchanged
 
     -- and where it has a job, those of a device with a job
@@ -89,14 +89,14 @@ module _ (k : Numbers) (l : List ℕ) where
         → handledInPlace k l F packet R ≡ handleInBytes (byReading (readOf packet) k (decode l) F packet R)
     unfolding handledInPlace handled
     handled-open =
-        opened handleInBytes (byReading (readOf packet) k (decode l) F packet R) (handleRefused (decode l) F R) (λ r. handlePlaced (Refused r) l F (zeros (length R)))
+        opened handleInBytes (byReading (readOf packet) k (decode l) F packet R) (handleRefused (decode l) F R) (λ r. handlePlaced (Refused r) l F (zeros (length R)) 0)
         (soundFor k l) wholly (lent k F) (leb 8 (length R)) true (sound-in k l)
 
     pub handled-shut : Bytes l → (r : Refusal) → gated (soundFor k l) (lent k F) (leb 8 (length R)) true ≡ Refused r
-        → handlePlaced (Refused r) l F (zeros (length R)) ≡ handledInPlace k l F packet R
+        → handlePlaced (Refused r) l F (zeros (length R)) 0 ≡ handledInPlace k l F packet R
     unfolding handledInPlace handled
     handled-shut b r =
-        shut handleInBytes (byReading (readOf packet) k (decode l) F packet R) (handleRefused (decode l) F R) (λ q. handlePlaced (Refused q) l F (zeros (length R)))
+        shut handleInBytes (byReading (readOf packet) k (decode l) F packet R) (handleRefused (decode l) F R) (λ q. handlePlaced (Refused q) l F (zeros (length R)) 0)
         (soundFor k l) wholly (lent k F) (leb 8 (length R)) true (sound-in k l) r (λ s q. rw (unchanged k l s b))
 
   module _ (R : List ℕ) where

@@ -20,7 +20,7 @@ use Rattle.answer.specs.declared.Failure.the-variants.{NoImage}
 use Rattle.answer.specs.declared.Answer.{Answer}
 use Rattle.answer.specs.declared.Checked.{Checked}
 use Rattle.answer.specs.declared.Checked.the-variants.{Fails}
-use Rattle.answer.specs.Answers.{statusOf, payloadOf}
+use Rattle.answer.specs.Answers.{statusOf, payloadOf, reasonIn}
 use Rattle.image.specs.declared.Terms.{Terms}
 use Rattle.image.specs.Images.{checkedOf, flashAfter}
 use Rattle.plan.specs.Stores.{onward, cutShort, stored, spoilt, leftAt}
@@ -36,12 +36,13 @@ use Rattle.services.specs.declared.Verdict.{Verdict}
 use Rattle.services.specs.declared.Verdict.the-variants.{Taken, Refused}
 use Rattle.jobs.specs.Jobs.{progressed, nextStore}
 
--- all that handle leaves behind: its answer, the next device, the next flash, the reply buffer
+-- all that handle leaves behind: its answer, the next device, the next flash, the reply buffer, and beside the reply why a key was turned down
 pub record HandleResult : Type 0 where
   pub verdict : Verdict
   pub device : Device
   pub flash : List ℕ
   pub reply : List ℕ
+  pub reason : ℕ
 
 -- the same of cut, whose reply is the event
 pub record CutResult : Type 0 where
@@ -63,8 +64,8 @@ pub record WorkResult : Type 0 where
   pub flash : List ℕ
   pub left : ℕ
 
-abbrev pub handleResult : Verdict → Device → List ℕ → List ℕ → HandleResult
-handleResult v d F R = record { verdict = v; device = d; flash = F; reply = R }
+abbrev pub handleResult : Verdict → Device → List ℕ → List ℕ → ℕ → HandleResult
+handleResult v d F R n = record { verdict = v; device = d; flash = F; reply = R; reason = n }
 
 abbrev pub cutResult : Verdict → Device → List ℕ → List ℕ → CutResult
 cutResult v d F R = record { verdict = v; device = d; flash = F; reply = R }
@@ -101,9 +102,10 @@ passed Taken x back = x
 passed (Refused r) x back = back r
 
 -- HANDLE A PACKET
--- a refusal returns its number and the given device, leaves flash untouched and fills the reply buffer, whatever its length, with zeros
+-- a refusal returns its number and the given device, leaves flash untouched and fills the reply buffer, whatever its length, with zeros;
+-- it has no reason
 abbrev pub handleRefused : Device → List ℕ → List ℕ → Refusal → HandleResult
-handleRefused d F R r = handleResult (Refused r) d F (zeros (length R))
+handleRefused d F R r = handleResult (Refused r) d F (zeros (length R)) 0
 
 -- what the device asks of an image
 abbrev pub termsOf : Head → Terms
@@ -131,6 +133,7 @@ answeredBy k d F packet R command checked =
     handleResult Taken (carried (stepFor d command packet checked) (keyIn command packet) d)
     (flashAfter (k .size) checked F)
     (replyTo command (stepFor d command packet checked .answer) (length R))
+    (reasonIn (stepFor d command packet checked .answer))
 
 abbrev pub answered : Numbers → Device → List ℕ → List ℕ → List ℕ → Command → HandleResult
 answered k d F packet R command = answeredBy k d F packet R command (checkedFor k (d .head) command (d .key) F)

@@ -16,12 +16,13 @@ use Rattle.services.specs.Calls.{HandleResult, RestartResult, WorkResult
 use Rattle.device.specs.Layout.{recordLength, encode, decode}
 use Rattle.soundness.specs.Sound.{soundRecord}
 
--- all that handle leaves behind: its answer, the record's bytes, the flash, the reply buffer
+-- all that handle leaves behind: its answer, the record's bytes, the flash, the reply buffer, and why a key was turned down
 pub record HandlePlaced : Type 0 where
   pub verdict : Verdict
   pub bytes : List ℕ
   pub flash : List ℕ
   pub reply : List ℕ
+  pub reason : ℕ
 
 -- the same of cut, whose reply is the event
 pub record CutPlaced : Type 0 where
@@ -48,8 +49,8 @@ pub record FreshPlaced : Type 0 where
   pub verdict : Verdict
   pub bytes : List ℕ
 
-abbrev pub handlePlaced : Verdict → List ℕ → List ℕ → List ℕ → HandlePlaced
-handlePlaced v l F R = record { verdict = v; bytes = l; flash = F; reply = R }
+abbrev pub handlePlaced : Verdict → List ℕ → List ℕ → List ℕ → ℕ → HandlePlaced
+handlePlaced v l F R n = record { verdict = v; bytes = l; flash = F; reply = R; reason = n }
 
 abbrev pub cutPlaced : Verdict → List ℕ → List ℕ → List ℕ → CutPlaced
 cutPlaced v l F R = record { verdict = v; bytes = l; flash = F; reply = R }
@@ -65,7 +66,7 @@ freshPlaced v l = record { verdict = v; bytes = l }
 
 -- a call's result, the device as bytes
 abbrev pub handleInBytes : HandleResult → HandlePlaced
-handleInBytes r = handlePlaced (r .verdict) (encode (r .device)) (r .flash) (r .reply)
+handleInBytes r = handlePlaced (r .verdict) (encode (r .device)) (r .flash) (r .reply) (r .reason)
 
 abbrev pub cutInBytes : CutResult → CutPlaced
 cutInBytes r = cutPlaced (r .verdict) (encode (r .device)) (r .flash) (r .reply)
@@ -88,7 +89,7 @@ freshInPlace l =
 -- HANDLE A PACKET
 unfoldable pub handledInPlace : Numbers → List ℕ → List ℕ → List ℕ → List ℕ → HandlePlaced
 handledInPlace k l F packet R =
-    pick (soundFor k l) (handleInBytes (handled k (decode l) F packet R)) (handlePlaced (Refused UnsoundRecord) l F (zeros (length R)))
+    pick (soundFor k l) (handleInBytes (handled k (decode l) F packet R)) (handlePlaced (Refused UnsoundRecord) l F (zeros (length R)) 0)
 
 -- RESTART
 unfoldable pub restartedInPlace : Numbers → List ℕ → List ℕ → RestartPlaced

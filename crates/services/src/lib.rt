@@ -36,6 +36,12 @@ pub enum Verdict {
     Refused(Refusal),
 }
 
+// What handle answers: also why a key was turned down, as a number; 0 for no reason.
+pub struct Told {
+    pub verdict: Verdict,
+    pub reason: u8,
+}
+
 // The numbers of the first kind.
 fn first_kind() -> Numbers
     ensures { λ r. ⌜ r ≡ first ⌝ }
@@ -123,6 +129,18 @@ fn look_for(k: Numbers, rec: &[u8], command: Command, flash: &[u8]) -> Checked
     Checked::Fails(Failure::NoImage)
 }
 
+// A packet that is refused.
+fn turn_away(reply: &mut [u8], refusal: Refusal) -> Told
+    ensures { λ r. ⌜ r ≡ record { verdict = Verdict.Refused refusal; reason = 0 } ⌝ }
+    ensures { λ _. ⌜ now (reply .exit) ≡ zeros (length (now (reply .entry))) ⌝ }
+{
+    reply::clear(reply);
+    Told {
+        verdict: Verdict::Refused(refusal),
+        reason: 0,
+    }
+}
+
 // The response to a command, written.
 fn respond(reply: &mut [u8], command: Command, answer: Answer)
     ensures { λ _. ⌜ now (reply .exit) ≡ replyTo command answer (length (now (reply .entry))) ⌝ }
@@ -143,18 +161,21 @@ fn answer_to(
     packet: &[u8],
     reply: &mut [u8],
     command: Command,
-) -> Verdict
+) -> Told
     requires { ⌜ Sensible k ⌝ }
     requires { ⌜ Held (now rec) ⌝ }
     requires { ⌜ Taking k (decode (now rec)) (now flash) (now packet) (now reply) command ⌝ }
-    ensures { λ r. ⌜ handlePlaced r (now (rec .exit)) (now (flash .exit)) (now (reply .exit)) ≡ handleInBytes (answered k (decode (now (rec .entry))) (now (flash .entry)) (now (packet .entry)) (now (reply .entry)) command) ⌝ }
+    ensures { λ r. ⌜ handlePlaced (r .verdict) (now (rec .exit)) (now (flash .exit)) (now (reply .exit)) (r .reason) ≡ handleInBytes (answered k (decode (now (rec .entry))) (now (flash .entry)) (now (packet .entry)) (now (reply .entry)) command) ⌝ }
 {
     let checked = look_for(k, rec, command, flash);
     let first = basics::byte_at(packet, 4);
     let answer = decisions::command(rec, checked, command, first, key_in(command, packet));
     image::clear_after(flash, k.size, checked);
     respond(reply, command, answer);
-    Verdict::Taken
+    Told {
+        verdict: Verdict::Taken,
+        reason: answer::reason_in(answer),
+    }
 }
 
 // Handles a packet on the record of a device of any kind.
@@ -164,9 +185,9 @@ fn handle_as(
     flash: &mut [u8],
     packet: &[u8],
     reply: &mut [u8],
-) -> Verdict
+) -> Told
     requires { ⌜ Sensible k ⌝ }
-    ensures { λ r. ⌜ handlePlaced r (now (rec .exit)) (now (flash .exit)) (now (reply .exit)) ≡ handledInPlace k (now (rec .entry)) (now (flash .entry)) (now (packet .entry)) (now (reply .entry)) ⌝ }
+    ensures { λ r. ⌜ handlePlaced (r .verdict) (now (rec .exit)) (now (flash .exit)) (now (reply .exit)) (r .reason) ≡ handledInPlace k (now (rec .entry)) (now (flash .entry)) (now (packet .entry)) (now (reply .entry)) ⌝ }
 {
     let sound = soundness::is_sound(rec, k.size, k.top);
     let verdict = gate(sound, flash.len() == k.count * k.size, 8 <= reply.len(), true);
@@ -177,16 +198,16 @@ fn handle_as(
                 Reading::Lawful { command, length: _ } => {
                     answer_to(k, rec, flash, packet, reply, command)
                 }
-                Reading::Refused(refusal) => refuse(reply, refusal),
+                Reading::Refused(refusal) => turn_away(reply, refusal),
             }
         }
-        Verdict::Refused(refusal) => refuse(reply, refusal),
+        Verdict::Refused(refusal) => turn_away(reply, refusal),
     }
 }
 
 // HANDLE A PACKET.
-pub fn handle(rec: &mut [u8], flash: &mut [u8], packet: &[u8], reply: &mut [u8]) -> Verdict
-    ensures { λ r. ⌜ handlePlaced r (now (rec .exit)) (now (flash .exit)) (now (reply .exit)) ≡ handledInPlace first (now (rec .entry)) (now (flash .entry)) (now (packet .entry)) (now (reply .entry)) ⌝ }
+pub fn handle(rec: &mut [u8], flash: &mut [u8], packet: &[u8], reply: &mut [u8]) -> Told
+    ensures { λ r. ⌜ handlePlaced (r .verdict) (now (rec .exit)) (now (flash .exit)) (now (reply .exit)) (r .reason) ≡ handledInPlace first (now (rec .entry)) (now (flash .entry)) (now (packet .entry)) (now (reply .entry)) ⌝ }
 {
     handle_as(first_kind(), rec, flash, packet, reply)
 }

@@ -5,10 +5,11 @@ ghost use mathlib.Core.Path.{_≡_};
 ghost use Rattle.services.specs.Calls.{first};
 ghost use Rattle.services.specs.InPlace.{handlePlaced, restartPlaced, workPlaced, cutPlaced, handledInPlace, restartedInPlace, workedInPlace, cutInPlace};
 
-// What handle gives back.
+// What handle gives back: also why a key was turned down, as a number; 0 for no reason.
 pub struct Handled {
     pub verdict: Verdict,
     pub device: Device,
+    pub reason: u8,
 }
 
 // What restart and cut give back.
@@ -25,13 +26,15 @@ pub struct Worked {
 }
 
 pub fn handle(d: Device, flash: &mut [u8], packet: &[u8], reply: &mut [u8]) -> Handled
-    ensures { λ r. ⌜ handlePlaced (r .verdict) (r .device .bytes) (now (flash .exit)) (now (reply .exit)) ≡ handledInPlace first (d .bytes) (now (flash .entry)) (now (packet .entry)) (now (reply .entry)) ⌝ }
+    ensures { λ r. ⌜ handlePlaced (r .verdict) (r .device .bytes) (now (flash .exit)) (now (reply .exit)) (r .reason) ≡ handledInPlace first (d .bytes) (now (flash .entry)) (now (packet .entry)) (now (reply .entry)) ⌝ }
 {
     let mut bytes = d.bytes;
-    let verdict = crate::handle(&mut bytes, flash, packet, reply);
+    let told = crate::handle(&mut bytes, flash, packet, reply);
+    let verdict = told.verdict;
     Handled {
         verdict,
         device: Device { bytes },
+        reason: told.reason,
     }
 }
 

@@ -29,6 +29,9 @@ clear-after-requires c κs =
 respond-requires : tie.Need-respond-requires
 respond-requires c κs = search needs
 
+reason-in-requires : tie.Need-reason-in-requires
+reason-in-requires c κs = search needs
+
 same-length : tie.Need-same-length
 same-length c = search needs
 
@@ -41,15 +44,16 @@ same-length-3 c = search needs
 returns : tie.Need-returns
 unfolding decode
 returns c =
-    let e = c .before .before .before .before .before .before .before .before .before .before .command .ensures in
+    let e = c .before .before .before .before .before .before .before .before .before .before .before .command .ensures in
     rw (
       bytes-of _ _ _ _ _ e,
-      c .before .before .respond .ensures,
+      c .reason-in .ensures,
+      c .before .before .before .respond .ensures,
       answer-of _ _ _ _ _ e,
-      c .before .before .before .before .before .before .clear-after .ensures,
-      c .before .before .before .before .before .before .before .before .before .before .before .key-in .ensures,
-      c .before .before .before .before .before .before .before .before .before .before .before .before .before .byte-at .ensures,
-      c .before .before .before .before .before .before .before .before .before .before .before .before .before .before .look-for .ensures,
+      c .before .before .before .before .before .before .before .clear-after .ensures,
+      c .before .before .before .before .before .before .before .before .before .before .before .before .key-in .ensures,
+      c .before .before .before .before .before .before .before .before .before .before .before .before .before .before .byte-at .ensures,
+      c .before .before .before .before .before .before .before .before .before .before .before .before .before .before .before .look-for .ensures,
     )
 
 pub answer-to-spec : {M : Type 1} → statement M
@@ -62,6 +66,7 @@ answer-to-spec =
     command-requires
     clear-after-requires
     respond-requires
+    reason-in-requires
     same-length
     same-length-2
     same-length-3

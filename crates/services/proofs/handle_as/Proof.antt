@@ -59,14 +59,14 @@ answer-to-requires c κs =
 enum-known-reading-2 : tie.Need-enum-known-reading-2
 enum-known-reading-2 c = search needs
 
-refuse-requires : tie.Need-refuse-requires
-refuse-requires c κs = search needs
+turn-away-requires : tie.Need-turn-away-requires
+turn-away-requires c κs = search needs
 
 enum-known-verdict : tie.Need-enum-known-verdict
 enum-known-verdict c = search needs
 
-refuse-requires-2 : tie.Need-refuse-requires-2
-refuse-requires-2 c κs = search needs
+turn-away-requires-2 : tie.Need-turn-away-requires-2
+turn-away-requires-2 c κs = search needs
 
 same-length : tie.Need-same-length
 same-length c = search needs
@@ -102,7 +102,7 @@ returns-2 c =
     let b : Bytes l = λ i. omega (arith, g .before .before .before .before .before .before .before .slice-known .given i) in
     let e : gated (soundFor (a .k) l) (lent (a .k) (a .flash .now)) (leb 8 (length (a .reply .now))) true ≡ Taken = rw (g .before .before .is-sound .ensures) at (sym (g .gate .ensures) ∙ c .before .before .before .before .before .before .before .before .enum-told .given .1) in
     let q = sym (c .before .before .before .before .before .before .before .read .ensures) ∙ c .before .before .before .before .before .reading2 .given .1 in
-    rw (c .before .before .refuse .ensures .0, c .before .before .refuse .ensures .1)
+    rw (c .before .before .turn-away .ensures .0, c .before .before .turn-away .ensures .1)
     (refused-in (a .k) l (opens _ _ _ _ e .whole) b _ (a .flash .now) (a .reply .now)
     ∙ sym (handled-open (a .k) l (a .flash .now) (a .packet .now) (a .reply .now) e ∙ ap (λ (r : Reading). handleInBytes (byReading r (a .k) (decode l) (a .flash .now) (a .packet .now) (a .reply .now))) q))
 
@@ -119,7 +119,7 @@ returns-3 c =
     let l = a .rec .now in
     let b : Bytes l = λ i. omega (arith, g .before .before .before .before .before .before .before .slice-known .given i) in
     let e : gated (soundFor (a .k) l) (lent (a .k) (a .flash .now)) (leb 8 (length (a .reply .now))) true ≡ Refused _ = rw (g .before .before .is-sound .ensures) at (sym (g .gate .ensures) ∙ c .before .before .before .before .before .verdict .given .1) in
-    rw (c .before .before .refuse2 .ensures .0, c .before .before .refuse2 .ensures .1) (handled-shut (a .k) l (a .flash .now) (a .packet .now) (a .reply .now) b _ e)
+    rw (c .before .before .turn-away2 .ensures .0, c .before .before .turn-away2 .ensures .1) (handled-shut (a .k) l (a .flash .now) (a .packet .now) (a .reply .now) b _ e)
 
 pub handle-as-spec : {M : Type 1} → statement M
 handle-as-spec =
@@ -133,9 +133,9 @@ handle-as-spec =
     enum-known-reading
     answer-to-requires
     enum-known-reading-2
-    refuse-requires
+    turn-away-requires
     enum-known-verdict
-    refuse-requires-2
+    turn-away-requires-2
     same-length
     same-length-2
     same-length-3
