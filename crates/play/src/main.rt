@@ -16,14 +16,15 @@ fn packet(rec: &mut [u8], flash: &mut [u8], line: &[u8], hex: usize) {
     let mut bytes = [0u8; 260];
     let n = script::packet_bytes(line, hex, &mut bytes);
     let mut reply = [0u8; 8];
-    let verdict = services::handle(rec, flash, &bytes[..n], &mut reply);
-    say::outcome(verdict, b"reply ", reply::next_message(b"", &reply));
+    let told = services::handle(rec, flash, &bytes[..n], &mut reply);
+    let verdict = told.verdict;
+    say::outcome(verdict, b"reply ", reply::next_message(b"", &reply), told.reason);
 }
 
 fn restart(rec: &mut [u8]) {
     let mut event = [0u8; 6];
     let verdict = services::restart(rec, &mut event);
-    say::outcome(verdict, b"event ", &event);
+    say::outcome(verdict, b"event ", &event, 0);
 }
 
 // The power is cut in the next store.
@@ -31,7 +32,7 @@ fn cut(rec: &mut [u8], flash: &mut [u8], filler: u8, through: bool) {
     let mut event = [0u8; 6];
     let filler = [filler; Device::SECTOR_SIZE];
     let verdict = services::cut(rec, flash, &filler, through, &mut event);
-    say::outcome(verdict, b"event ", &event);
+    say::outcome(verdict, b"event ", &event, 0);
 }
 
 // Up to `stores` stores, while one is left. (A job has at least one. Work is not refused here: the record stays sound, and the flash has its

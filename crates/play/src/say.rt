@@ -69,12 +69,29 @@ pub fn ok() {
     text(b"ok\n");
 }
 
-// The line of a call: a word and the bytes that it wrote, or the number of its refusal.
-pub fn outcome(verdict: Verdict, word: &[u8], message: &[u8]) {
+// Why a key was turned down, in words.
+fn why(reason: u8) {
+    match reason {
+        1 => text(b" bad type"),
+        2 => text(b" bad size"),
+        3 => text(b" second master"),
+        4 => text(b" store full"),
+        5 => text(b" not stored"),
+        6 => text(b" locked"),
+        7 => text(b" no master"),
+        8 => text(b" not loaded"),
+        _ => {}
+    }
+}
+
+// The line of a call: a word, the bytes that it wrote and why a key was turned down, or the number of its refusal.
+pub fn outcome(verdict: Verdict, word: &[u8], message: &[u8], reason: u8) {
     match verdict {
         Verdict::Taken => {
             text(word);
-            line(message);
+            hex(message);
+            why(reason);
+            text(b"\n");
         }
         Verdict::Refused(refusal) => refused(refusal),
     }
