@@ -706,8 +706,7 @@ static uint8_t answer_line(uint8_t *record, size_t record_len, uint8_t *flash, s
 
 uint8_t plain_serial(uint8_t *record, size_t record_len, uint8_t *flash, size_t flash_len, uint8_t *reader, size_t reader_len, uint8_t byte,
                      uint8_t *out, size_t out_len, uint8_t *sent, uint8_t *reason) {
-    *sent = 0;
-    *reason = GRZELOTKA_REASON_NONE;
+    *sent = *reason = 0;
     if (out_len)
         memset(out, 0, out_len);
     if (out_len < MOST_SENT)
@@ -717,17 +716,14 @@ uint8_t plain_serial(uint8_t *record, size_t record_len, uint8_t *flash, size_t 
     unsigned n = ++reader[0];
     uint8_t *s = reader + 1;
     s[n - 1] = byte;
-    bool last = n >= PAIR && n == whole_length(s, n);
-    if (!phase_good(s, n) || (last && is_write(s) && !data_good(s, n))) {
-        out[0] = NACK;
-        *sent = 1;
-        memset(reader, 0, READER);
-    } else if (last) {
+    bool last = n >= PAIR && n == whole_length(s, n), wrong = !phase_good(s, n) || (last && is_write(s) && !data_good(s, n));
+    if (wrong)
+        *sent = send(out, &(const uint8_t){NACK}, 1);
+    else if (last)
         *sent = answer_line(record, record_len, flash, flash_len, s, n, out, reason);
-        memset(reader, 0, READER);
-    } else if (n == PAIR || n == OPCODE || n == ADDRESS) {
-        out[0] = ACK;
-        *sent = 1;
-    }
+    else if (n == PAIR || n == OPCODE || n == ADDRESS)
+        *sent = send(out, &(const uint8_t){ACK}, 1);
+    if (wrong || last)
+        plain_serial_fresh(reader, READER);
     return 0;
 }

@@ -11,8 +11,8 @@ int open(const char *, int, ...);
 void *mmap(void *, size_t, int, int, int, long);
 
 enum { RECORD_AT = 0, PACKET_AT = 8192, FILLER_AT = 12288, REPLY_AT = 20480, FLASH_AT = 24576, VERDICT_AT = 1048576, WHOLE = 2359296 };
-/* of the serial line: the reader stands where a filler would, and what happened with each byte of a stream where verdicts would */
-enum { READER_AT = FILLER_AT, LOG_AT = VERDICT_AT, SERIAL_OUT = 12 };
+/* of the serial line: the reader stands behind the packet, and what happened with each byte of a stream where verdicts would */
+enum { READER_AT = 11264, LOG_AT = VERDICT_AT, SERIAL_OUT = 12 };
 enum { FRESH, READ, HANDLE, RESTART, WORK, CUT, NEXT_MESSAGE, RECORD_BYTES, VERDICTS, HANDLE_WHY, SERIAL_BYTES, SERIAL_FRESH, SERIAL };
 
 struct request {

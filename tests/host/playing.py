@@ -12,7 +12,7 @@ import tempfile
 import model
 
 RECORD_AT, PACKET_AT, FILLER_AT, REPLY_AT, FLASH_AT, VERDICT_AT, WHOLE = 0, 8192, 12288, 20480, 24576, 1048576, 2359296
-READER_AT, LOG_AT = FILLER_AT, VERDICT_AT
+READER_AT, LOG_AT = 11264, VERDICT_AT
 FRESH, READ, HANDLE, RESTART, WORK, CUT, NEXT_MESSAGE, RECORD_BYTES, VERDICTS, HANDLE_WHY, SERIAL_BYTES, SERIAL_FRESH, SERIAL = range(13)
 NAMES = ('fresh', 'read', 'handle', 'restart', 'work', 'cut', 'next_message', 'record_bytes', 'verdicts', 'handle_why', 'serial_bytes',
          'serial_fresh', 'serial')
