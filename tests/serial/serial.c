@@ -87,6 +87,7 @@ static void damaged_sessions(void) {
     CHECK(talk("50 AF", "79") && turned_down("00 52 FF AD"));
     CHECK(talk("51 AE", "79") && turned_down("00 55 FF AA"));
     CHECK(talk("51 AE", "79") && turned_down("FF 58 00 A7"));
+    CHECK(talk("51 AE", "79") && turned_down("00 58 00 A7") && talk("50 AF", "79") && turned_down("00 54 FE AB"));
     CHECK(talk("51 AE", "79") && turned_down("58 00 A7 FF"));
     for (const char *const *opcode = (const char *const[]){"00 50 FF AF", "00 51 FF AE", "00 5B FF A4", "00 5D FF A2", "00 5E FF A1", "00 5F FF A0",
                                                            "FC 58 03 A7", NULL};
@@ -230,6 +231,57 @@ static void prefixes(void) {
             }
         }
     CHECK(memcmp(before_flash, flash, FLASH) == 0);
+}
+
+/* a byte that does not occur in a command, and with which no pair begins or ends */
+static uint8_t odd_byte(const uint8_t *s, size_t n) {
+    for (uint8_t byte = 0xFF;; byte--) {
+        bool free = byte != 0x50 && byte != 0x51 && byte != 0xAE && byte != 0xAF;
+        for (size_t i = 0; i < n; i++)
+            free = free && s[i] != byte;
+        if (free)
+            return byte;
+    }
+}
+
+/* a client that sends packet after packet while they are answered with an ACK, with byte `at` of the command lost or doubled on the way; then, as
+   docs/SERIAL.md says, the same byte until a NACK comes: the line is in step again. With a byte lost nothing has reached the device; with one
+   doubled the XOR may be right all the same */
+static void in_step_again(const uint8_t *s, size_t n, size_t at, bool doubled) {
+    const size_t ends[] = {2, 6, 9, n};
+    bool acked = true, reached = false;
+    size_t k = 0, tries = 0;
+    for (int packet = 0; packet < 4 && acked && k < n; packet++) {
+        acked = false;
+        for (; k < ends[packet] && k < n; k++)
+            for (int times = k == at ? doubled * 2 : 1; times > 0; times--) {
+                CHECK(take(s[k]) == 0);
+                reached = reached || sent > 1;
+                acked = sent == 1 && out[0] == ACK ? true : sent ? false : acked && k == at;
+            }
+    }
+    CHECK(reached ? doubled : !doubled || at < n - 1);
+    do
+        CHECK(take(odd_byte(s, n)) == 0 && sent < 2);
+    while ((sent == 0 || out[0] != NACK) && ++tries < 3);
+    CHECK(tries < 3 && is_new() && (reached || memcmp(before, record, RECORD) == 0));
+    CHECK(talk("50 AF", "79") && talk("00 54 FF AB", "79") && take(0) == 0 && take(0) == 0 && take(0) == 0 && sent == 10 && is_new());
+}
+
+static void lost_bytes(void) {
+    uint8_t s[200];
+    begin();
+    CHECK(fresh_with_stack(4, 7) && store(1, 16) == 1);
+    memcpy(before, record, RECORD), memcpy(before_flash, flash, FLASH);
+    for (size_t i = 0; i < COMMANDS; i++)
+        for (unsigned size = commands[i].least; size <= commands[i].most; size++) {
+            size_t whole = make_command(s, commands + i, size);
+            for (size_t at = 0; at < 2 * whole; at++) {
+                in_step_again(s, whole, at / 2, at % 2);
+                memcpy(record, before, RECORD);
+            }
+        }
+    CHECK(memcmp(flash, before_flash, FLASH) == 0);
 }
 
 /* each command with FUS idle does to device and flash what its packet does, and its answer says the same */
@@ -391,6 +443,7 @@ int main(int count, char **words) {
     auth_answers();
     busy_answers();
     prefixes();
+    lost_bytes();
     as_packets();
     lengths();
     wrong_buffers();
