@@ -1,11 +1,12 @@
 /* The stack that a store takes, in the compiled library: work and cut run on a painted stack of their own, in every kind of store.
-     frames                         prints the bytes that work and cut write to
-     frames LEAST_WORK LEAST_CUT    tests them
+     frames                     prints the bytes that are written to by a work that copies no sector, by one that does, and by a cut
+     frames WORK COPY CUT       tests them against these numbers
    Three things must hold, and a local array above 64 bytes breaks one of them:
    - no more than 64 bytes in a row of what is copied, of the filler or of the record stand on the stack afterwards: the bytes tell their places;
    - no byte stands there more than 64 times in a row, as in an array that is filled and not used;
-   - all of the stack that is written to, in bytes beyond the return address, is at least the number given and at most 64 more. An array that is
-     added makes it larger by all its bytes; where the code has come to take less, the number is to be lowered, or it would not be seen. */
+   - the bytes of the stack that are written to, the call's own left out, are at least the number given and at most 64 more. An array that is added
+     adds all its bytes; where the code has come to take less, the number is to be lowered, or it would not be seen. (It adds less if it lies where
+     the copied piece lay before: then only the source tells, arrays.py.) */
 #include "host.h"
 
 enum { STACK = 16384, ARRAY = 64, TURNS = 3, IMAGE = 3 * SECTOR };
@@ -97,21 +98,29 @@ static size_t longest_same(size_t from, uint8_t paint) {
 /* ---- a store */
 
 struct taken {
-    size_t deepest, array;
+    size_t written, array;
 };
 
 static void most(size_t *a, size_t b) {
     *a = b > *a ? b : *a;
 }
 
-/* the call on a painted stack: the bytes that it writes to */
-static size_t written(uint8_t paint) {
+/* the call on a painted stack; the bytes that it writes to are marked */
+static void paint_and_play(uint8_t paint, bool *marks) {
     memset(stack, paint, STACK);
     getcontext(&there);
     there.link = &here, there.stack.at = stack, there.stack.size = STACK;
     makecontext(&there, play, 0);
     swapcontext(&here, &there);
-    return STACK - touched(paint);
+    for (size_t i = 0; i < STACK; i++)
+        marks[i] = marks[i] || stack[i] != paint;
+}
+
+static size_t marked(const bool *marks) {
+    size_t count = 0;
+    for (size_t i = 0; i < STACK; i++)
+        count += marks[i];
+    return count;
 }
 
 /* the longest array seen after the call */
@@ -128,34 +137,46 @@ static size_t array_seen(uint32_t turn, uint8_t paint) {
 /* What work or cut takes from here, beyond what the call by itself takes. There are three turns with other bytes and another paint: a written byte may
    be the paint, and a byte beside an array may go on with it by chance, but not in every turn. */
 static struct taken measure(bool cuts, size_t image) {
+    static bool written[STACK], none[STACK];
     struct taken t = {0, STACK};
-    size_t none = 0;
+    memset(written, 0, sizeof written), memset(none, 0, sizeof none);
     memcpy(kept_record, record, RECORD), memcpy(kept_flash, flash, FLASH);
     for (uint32_t turn = 0; turn < TURNS; turn++) {
         uint8_t paint = 0xA7 + 2 * turn;
         tell_places(flash + image, IMAGE, IN_SOURCE), tell_places(filler, SECTOR, IN_FILLER);
         tell_places(record + GRZELOTKA_KEY_BYTES, RECORD - GRZELOTKA_KEY_BYTES, IN_RECORD);
         cutting = cuts, idle_call = false;
-        most(&t.deepest, written(paint));
+        paint_and_play(paint, written);
         size_t array = array_seen(turn, paint);
         t.array = array < t.array ? array : t.array;
         idle_call = true;
-        most(&none, written(paint));
+        paint_and_play(paint, none);
         memcpy(record, kept_record, RECORD), memcpy(flash, kept_flash, FLASH);
     }
-    t.deepest -= none;
+    t.written = marked(written) - marked(none);
     return t;
 }
 
 /* ---- every kind of store */
 
-static struct taken works, cuts;
+enum { WORK, COPY, CUT, CALLS };
+static const char *const calls[CALLS] = {"work that copies nothing", "work that copies a sector", "cut"};
+static struct taken taken[CALLS];
 static int stores;
 
+static void measure_call(int call, size_t image) {
+    struct taken t = measure(call == CUT, image);
+    most(&taken[call].written, t.written), most(&taken[call].array, t.array);
+}
+
+static bool copies(void) {
+    uint32_t sectors = (word(record + GRZELOTKA_IMAGE_SIZE) + SECTOR - 1) / SECTOR;
+    return record[GRZELOTKA_STORES_MADE] == 1 && word(record + GRZELOTKA_SECTORS_RECORDED) < sectors;
+}
+
 static void measure_here(size_t image) {
-    struct taken w = measure(false, image), c = measure(true, image);
-    most(&works.deepest, w.deepest), most(&works.array, w.array);
-    most(&cuts.deepest, c.deepest), most(&cuts.array, c.array);
+    measure_call(copies() ? COPY : WORK, image);
+    measure_call(CUT, image);
     stores++;
 }
 
@@ -180,19 +201,19 @@ static void measure_all(void) {
 }
 
 int main(int count, char **words) {
-    if (count != 1 && count != 3)
-        return printf("usage: frames [LEAST_WORK LEAST_CUT]\n"), 2;
+    if (count != 1 && count != 1 + CALLS)
+        return printf("usage: frames [WORK COPY CUT]\n"), 2;
     make_device();
     kept_flash = pages(FLASH);
     measure_all();
-    int work_bytes = works.deepest, cut_bytes = cuts.deepest, array = works.array > cuts.array ? works.array : cuts.array;
     if (count == 1)
-        return printf("%d %d\n", work_bytes, cut_bytes), failed != 0;
-    int least_work = atoi(words[1]), least_cut = atoi(words[2]);
-    CHECK(array <= ARRAY);
-    CHECK(work_bytes >= least_work && work_bytes <= least_work + ARRAY);
-    CHECK(cut_bytes >= least_cut && cut_bytes <= least_cut + ARRAY);
-    printf("%d stores: work writes to %d bytes of stack (%d to %d), cut to %d (%d to %d); the longest array seen: %d bytes (64)\n", stores, work_bytes,
-           least_work, least_work + ARRAY, cut_bytes, least_cut, least_cut + ARRAY, array);
+        return printf("%d %d %d\n", (int)taken[WORK].written, (int)taken[COPY].written, (int)taken[CUT].written), failed != 0;
+    for (int i = 0; i < CALLS; i++) {
+        int least = atoi(words[1 + i]), written = taken[i].written, array = taken[i].array;
+        printf("%s: %d bytes of stack written to (%d to %d), longest array seen %d (64)\n", calls[i], written, least, least + ARRAY, array);
+        CHECK(array <= ARRAY);
+        CHECK(written >= least && written <= least + ARRAY);
+    }
+    printf("%d stores, ", stores);
     return outcome("frames");
 }
