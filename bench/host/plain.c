@@ -1,6 +1,7 @@
-/* The stand-in in plain C, written from paper 01: the same calls with the same checks on the same record bytes (docs/RECORD.md), in place.
+/* The stand-in in plain C, written from papers 01 and 02: the same calls with the same checks on the same record bytes (docs/RECORD.md), in place.
    bench/host/run measures the archive beside it, and tests/host/bite seeds bugs into it to see that the tests find them. */
 #include "plain.h"
+#include "grzelotka.h"
 #include "grzelotka_record.h"
 #include <stdbool.h>
 #include <string.h>
@@ -243,59 +244,69 @@ static uint8_t upgrade(uint8_t *r, uint8_t *flash) {
     return 0;
 }
 
-/* the index given, or 0xFF */
-static uint8_t store_key(uint8_t *r, uint8_t type, const uint8_t *key, uint8_t size) {
+/* the user keys' commands: the reason why they fail, or none */
+
+/* STORE; `given` is the index */
+static uint8_t store_key(uint8_t *r, uint8_t type, const uint8_t *key, uint8_t size, uint8_t *given) {
     if (!key_lawful(type, size))
-        return 0xFF;
-    if (type == MASTER ? r[GRZELOTKA_TYPES] != 0 : r[GRZELOTKA_KEYS_STORED] == MOST_KEYS)
-        return 0xFF;
+        return type < SIMPLE || type > ENCRYPTED ? GRZELOTKA_REASON_BAD_TYPE : GRZELOTKA_REASON_BAD_SIZE;
+    if (type == MASTER && r[GRZELOTKA_TYPES] != 0)
+        return GRZELOTKA_REASON_SECOND_MASTER;
+    if (type != MASTER && r[GRZELOTKA_KEYS_STORED] == MOST_KEYS)
+        return GRZELOTKA_REASON_STORE_FULL;
     uint8_t slot = type == MASTER ? 0 : ++r[GRZELOTKA_KEYS_STORED];
     r[GRZELOTKA_TYPES + slot] = type;
     r[GRZELOTKA_SIZES + slot] = size;
     memcpy(r + GRZELOTKA_KEY_BYTES + slot * GRZELOTKA_KEY_BYTES_EACH, key, size);
-    return slot;
+    *given = slot;
+    return GRZELOTKA_REASON_NONE;
 }
 
-static bool load_key(uint8_t *r, uint8_t index) {
-    if (index == 0 || index > r[GRZELOTKA_KEYS_STORED] || r[GRZELOTKA_LOCKS + index])
-        return false;
-    if (r[GRZELOTKA_TYPES + index] == ENCRYPTED && r[GRZELOTKA_TYPES] != MASTER)
-        return false;
-    r[GRZELOTKA_LOADED_KEY] = index;
-    return true;
-}
-
-static bool lock_key(uint8_t *r, uint8_t index) {
+static uint8_t load_key(uint8_t *r, uint8_t index) {
     if (index == 0 || index > r[GRZELOTKA_KEYS_STORED])
-        return false;
+        return GRZELOTKA_REASON_NOT_STORED;
+    if (r[GRZELOTKA_LOCKS + index])
+        return GRZELOTKA_REASON_LOCKED;
+    if (r[GRZELOTKA_TYPES + index] == ENCRYPTED && r[GRZELOTKA_TYPES] != MASTER)
+        return GRZELOTKA_REASON_NO_MASTER;
+    r[GRZELOTKA_LOADED_KEY] = index;
+    return GRZELOTKA_REASON_NONE;
+}
+
+static uint8_t lock_key(uint8_t *r, uint8_t index) {
+    if (index < 1 || index > r[GRZELOTKA_KEYS_STORED])
+        return GRZELOTKA_REASON_NOT_STORED;
     r[GRZELOTKA_LOCKS + index] = 1;
-    return true;
+    return GRZELOTKA_REASON_NONE;
 }
 
-static bool unload_key(uint8_t *r, uint8_t index) {
+static uint8_t unload_key(uint8_t *r, uint8_t index) {
     if (index == 0 || index != r[GRZELOTKA_LOADED_KEY])
-        return false;
+        return GRZELOTKA_REASON_NOT_LOADED;
     r[GRZELOTKA_LOADED_KEY] = 0;
-    return true;
+    return GRZELOTKA_REASON_NONE;
 }
 
-/* a user key's command: 0 or E; `given` is STORE's index */
 static uint8_t key_command(uint8_t *r, uint16_t opcode, const uint8_t *payload, uint8_t length, uint8_t *given) {
     switch (opcode) {
     case STORE_USR_KEY:
-        *given = store_key(r, payload[0], payload + 2, length - 2);
-        return *given == 0xFF ? 0xFF : 0;
+        return store_key(r, payload[0], payload + 2, length - 2, given);
     case LOAD_USR_KEY:
-        return load_key(r, payload[0]) ? 0 : 0xFF;
+        return load_key(r, payload[0]);
     case LOCK_USR_KEY:
-        return lock_key(r, payload[0]) ? 0 : 0xFF;
+        return lock_key(r, payload[0]);
     default:
-        return unload_key(r, payload[0]) ? 0 : 0xFF;
+        return unload_key(r, payload[0]);
     }
 }
 
+/* what a command says besides its status: STORE's index, and why a key was turned down */
+struct said {
+    uint8_t given, reason;
+};
+
 /* a command other than GET_STATE with FUS idle: 0 or E */
-static uint8_t idle(uint8_t *r, uint8_t *flash, uint16_t opcode, const uint8_t *payload, uint8_t length, uint8_t *given) {
+static uint8_t idle(uint8_t *r, uint8_t *flash, uint16_t opcode, const uint8_t *payload, uint8_t length, struct said *said) {
     switch (opcode) {
     case FW_UPGRADE:
         return upgrade(r, flash);
@@ -325,7 +336,8 @@ static uint8_t idle(uint8_t *r, uint8_t *flash, uint16_t opcode, const uint8_t *
         r[GRZELOTKA_ANTIROLLBACK] = 1;
         return 0;
     default:
-        return key_command(r, opcode, payload, length, given);
+        said->reason = key_command(r, opcode, payload, length, &said->given);
+        return said->reason ? 0xFF : 0;
     }
 }
 
@@ -373,9 +385,10 @@ uint8_t plain_read(const uint8_t *packet, size_t packet_len, uint16_t *opcode, u
     return number;
 }
 
-uint8_t plain_handle(uint8_t *record, size_t record_len, uint8_t *flash, size_t flash_len, const uint8_t *packet, size_t packet_len,
-                     uint8_t *reply, size_t reply_len) {
+uint8_t plain_handle_why(uint8_t *record, size_t record_len, uint8_t *flash, size_t flash_len, const uint8_t *packet, size_t packet_len,
+                         uint8_t *reply, size_t reply_len, uint8_t *reason) {
     uint16_t opcode;
+    *reason = GRZELOTKA_REASON_NONE;
     if (!sound(record, record_len))
         return refused(1, reply, reply_len);
     if (flash_len != FLASH)
@@ -385,20 +398,28 @@ uint8_t plain_handle(uint8_t *record, size_t record_len, uint8_t *flash, size_t 
     uint8_t number = read_packet(packet, packet_len, &opcode);
     if (number)
         return refused(number, reply, reply_len);
-    uint8_t status = 0x01, last = 0xFF, length = opcode == GET_STATE || opcode == STORE_USR_KEY ? 5 : 4;
+    struct said said = {.given = 0xFF};
+    uint8_t status = 0x01, length = opcode == GET_STATE || opcode == STORE_USR_KEY ? 5 : 4;
     if (opcode == GET_STATE) {
-        status = get_state(record, &last);
+        status = get_state(record, &said.given);
     } else if (record[GRZELOTKA_MODE] == GRZELOTKA_IDLE) {
-        uint8_t error = idle(record, flash, opcode, packet + 4, packet[3], &last);
+        uint8_t error = idle(record, flash, opcode, packet + 4, packet[3], &said);
         record[GRZELOTKA_PENDING_ERROR] = error;
         status = error != 0;
     } else {
         record[GRZELOTKA_STATE_REQUESTED] = 0;
     }
-    const uint8_t bytes[8] = {0x11, 0x0E, length, 0xFF, packet[1], packet[2], status, length == 5 ? last : 0};
+    *reason = said.reason;
+    const uint8_t bytes[8] = {0x11, 0x0E, length, 0xFF, packet[1], packet[2], status, length == 5 ? said.given : 0};
     memcpy(reply, bytes, 8);
     memset(reply + 8, 0, reply_len - 8);
     return 0;
+}
+
+uint8_t plain_handle(uint8_t *record, size_t record_len, uint8_t *flash, size_t flash_len, const uint8_t *packet, size_t packet_len,
+                     uint8_t *reply, size_t reply_len) {
+    uint8_t reason;
+    return plain_handle_why(record, record_len, flash, flash_len, packet, packet_len, reply, reply_len, &reason);
 }
 
 uint8_t plain_restart(uint8_t *record, size_t record_len, uint8_t *event, size_t event_len) {
@@ -533,5 +554,176 @@ size_t plain_next_message(const uint8_t *event, size_t event_len, const uint8_t 
         return 7;
     if (response_len >= 8 && response[0] == 0x11 && response[1] == 0x0E && response[2] == 0x05)
         return 8;
+    return 0;
+}
+
+/* ---- the serial line
+
+   A reader is the number of bytes received of the current command, those bytes, and zeros. The phases of a command end after so many
+   bytes; the data phase after 12 and as many as the size says. */
+enum { READER = 78, PAIR = 2, OPCODE = 6, ADDRESS_SIZE = 8, ADDRESS = 9, DATA_SIZE = 11, DATA = 12, MOST_RECEIVED = 76, MOST_SENT = 10 };
+enum { ACK = 0x79, NACK = 0x1F };
+
+static bool is_write(const uint8_t *s) {
+    return s[0] == 0x51;
+}
+
+static bool pair_good(const uint8_t *s) {
+    return (s[0] == 0x50 && s[1] == 0xAF) || (s[0] == 0x51 && s[1] == 0xAE);
+}
+
+/* the low byte of the packet's opcode for the line's, from 0x52 on; 0 where a special write has no such command */
+static const uint8_t written[9] = {0x55, 0x54, 0, 0, 0x56, 0x57, 0x58, 0x59, 0x5A};
+
+static bool opcode_good(const uint8_t *s) {
+    if (s[2] != 0 || s[4] != 0xFF || (s[3] ^ s[5]) != 0xFF)
+        return false;
+    if (!is_write(s))
+        return s[3] == 0x54;
+    return s[3] >= 0x52 && s[3] <= 0x5A && written[s[3] - 0x52] != 0;
+}
+
+static bool size_good(const uint8_t *s) {
+    if (s[9] != 0)
+        return false;
+    switch (s[3]) {
+    case 0x56:
+        return s[10] == 65;
+    case 0x58:
+        return s[10] >= 2 && s[10] <= 46;
+    case 0x59:
+        return s[10] == 1;
+    default:
+        return s[10] == 0;
+    }
+}
+
+/* how many bytes the command has, as far as n of them tell */
+static unsigned whole_length(const uint8_t *s, unsigned n) {
+    if (!is_write(s))
+        return ADDRESS;
+    return n < DATA_SIZE ? DATA : DATA + s[10];
+}
+
+/* the phase that ends with byte n, if one does: the data phase is data_good's */
+static bool phase_good(const uint8_t *s, unsigned n) {
+    switch (n) {
+    case PAIR:
+        return pair_good(s);
+    case OPCODE:
+        return opcode_good(s);
+    case ADDRESS_SIZE:
+        return (s[6] | s[7]) == 0;
+    case ADDRESS:
+        return s[8] == 0;
+    case DATA_SIZE:
+        return size_good(s);
+    default:
+        return true;
+    }
+}
+
+/* every phase that n bytes complete is good */
+static bool phases_good(const uint8_t *s, unsigned n) {
+    return (n < PAIR || phase_good(s, PAIR)) && (n < OPCODE || phase_good(s, OPCODE)) && (n < ADDRESS_SIZE || phase_good(s, ADDRESS_SIZE)) &&
+           (n < ADDRESS || phase_good(s, ADDRESS)) && (n < DATA_SIZE || phase_good(s, DATA_SIZE));
+}
+
+static bool reader_lawful(const uint8_t *reader, size_t length) {
+    if (length != READER || reader[0] > MOST_RECEIVED)
+        return false;
+    unsigned n = reader[0];
+    uint8_t behind = 0;
+    for (unsigned i = 1 + n; i < READER; i++)
+        behind |= reader[i];
+    return !behind && phases_good(reader + 1, n) && (n < PAIR || n < whole_length(reader + 1, n));
+}
+
+/* the size bytes, the data and their XOR make 0 */
+static bool data_good(const uint8_t *s, unsigned n) {
+    uint8_t all = 0;
+    for (unsigned i = ADDRESS; i < n; i++)
+        all ^= s[i];
+    return all == 0;
+}
+
+/* what GET_STATE would reply next */
+static uint8_t peek(const uint8_t *r, uint8_t *error) {
+    *error = r[GRZELOTKA_MODE] == GRZELOTKA_IDLE ? r[GRZELOTKA_PENDING_ERROR] : r[GRZELOTKA_MODE] == GRZELOTKA_STACK_RUNS ? 0xFE : 0x00;
+    return has_job(r) ? 0x10 : *error ? 0xFF : 0x00;
+}
+
+static uint8_t send(uint8_t *out, const uint8_t *bytes, uint8_t count) {
+    memcpy(out, bytes, count);
+    return count;
+}
+
+/* the response behind the last ACK: how many bytes */
+static uint8_t respond(const uint8_t *r, const uint8_t *reply, uint8_t *out) {
+    uint8_t error, state = peek(r, &error);
+    if (reply[4] == (GET_STATE & 0xFF))
+        return send(out, (const uint8_t[]){0x00, 0x03, 0x00, reply[6], reply[7], 0x00, 0x01, 0x00, ACK}, 9);
+    if (reply[6])
+        return send(out, (const uint8_t[]){0x00, 0x03, 0x01, state, error, ACK}, 6);
+    if (reply[4] == (STORE_USR_KEY & 0xFF))
+        return send(out, (const uint8_t[]){0x00, 0x03, 0x00, state, reply[7], ACK}, 6);
+    return send(out, (const uint8_t[]){0x00, 0x01, 0x00, ACK}, 4);
+}
+
+/* a whole command of n bytes as our packet: how many bytes */
+static size_t packet_of(const uint8_t *s, unsigned n, uint8_t *packet) {
+    uint8_t size = is_write(s) ? n - DATA : 0;
+    packet[0] = 0x10;
+    packet[1] = is_write(s) ? written[s[3] - 0x52] : GET_STATE & 0xFF;
+    packet[2] = 0xFC;
+    packet[3] = size;
+    memcpy(packet + 4, s + DATA_SIZE, size);
+    return 4 + size;
+}
+
+size_t plain_serial_bytes(void) {
+    return READER;
+}
+
+uint8_t plain_serial_fresh(uint8_t *reader, size_t reader_len) {
+    if (reader_len != READER)
+        return 19;
+    memset(reader, 0, READER);
+    return 0;
+}
+
+/* the command is whole: it is handled, and the response, or a NACK in its place, stands behind the ACK */
+static uint8_t answer_line(uint8_t *record, size_t record_len, uint8_t *flash, size_t flash_len, const uint8_t *s, unsigned n, uint8_t *out,
+                           uint8_t *reason) {
+    uint8_t packet[4 + 65], reply[8];
+    size_t length = packet_of(s, n, packet);
+    out[0] = ACK;
+    if (plain_handle_why(record, record_len, flash, flash_len, packet, length, reply, 8, reason) == 0)
+        return 1 + respond(record, reply, out + 1);
+    out[1] = NACK;
+    return 2;
+}
+
+uint8_t plain_serial(uint8_t *record, size_t record_len, uint8_t *flash, size_t flash_len, uint8_t *reader, size_t reader_len, uint8_t byte,
+                     uint8_t *out, size_t out_len, uint8_t *sent, uint8_t *reason) {
+    *sent = *reason = 0;
+    if (out_len)
+        memset(out, 0, out_len);
+    if (out_len < MOST_SENT)
+        return 3;
+    if (!reader_lawful(reader, reader_len))
+        return 19;
+    unsigned n = ++reader[0];
+    uint8_t *s = reader + 1;
+    s[n - 1] = byte;
+    bool last = n >= PAIR && n == whole_length(s, n), wrong = !phase_good(s, n) || (last && is_write(s) && !data_good(s, n));
+    if (wrong)
+        *sent = send(out, &(const uint8_t){NACK}, 1);
+    else if (last)
+        *sent = answer_line(record, record_len, flash, flash_len, s, n, out, reason);
+    else if (n == PAIR || n == OPCODE || n == ADDRESS)
+        *sent = send(out, &(const uint8_t){ACK}, 1);
+    if (wrong || last)
+        plain_serial_fresh(reader, READER);
     return 0;
 }

@@ -6,10 +6,26 @@ compile() { # SOURCE OBJECT WORDS..
 # plain C under the library's names, to stand in for the archive
 stand_in() { # SOURCE OBJECT
     set -- "$1" "$2" -Wno-unused-function
-    for call in record_bytes fresh read handle restart work cut next_message; do
+    for call in record_bytes fresh read handle handle_why restart work cut next_message serial_bytes serial_fresh serial; do
         set -- "$@" "-Dplain_$call=grzelotka_$call"
     done
     compile "$@"
+}
+
+# sets `library` to what is tested: the archive, built here; or GRZELOTKA_OBJECT, which is an object's file, or the word plain for the stand-in
+choose_library() { # FOLDER
+    library=${GRZELOTKA_OBJECT:-}
+    case $library in
+    '')
+        rt staticlib grzelotka >"$1/said" 2>&1 || { cat "$1/said"; return 1; }
+        library=target/staticlib/libgrzelotka.a
+        ;;
+    plain)
+        library=$1/stand_in.o
+        stand_in bench/host/plain.c "$library"
+        ;;
+    *) [ -f "$library" ] || { echo "GRZELOTKA_OBJECT: there is no file $library" >&2; return 2; } ;;
+    esac
 }
 
 # a copy of the stand-in in plain C with one bug in it

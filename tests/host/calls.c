@@ -197,12 +197,16 @@ static void handle_refusals(void) {
         keep(r, f, a);
         uint8_t answer = grzelotka_handle(r->at, r->length, f->at, f->length, at_end(packets[k], packet_lengths[k]), packet_lengths[k], a->at, a->length);
         CHECK(answer == number);
-        if (number)
+        if (number) {
+            uint8_t reason = 0xA5;
             CHECK(unchanged(r, f) && all(a->at, a->length, 0));
-        else
+            answer = grzelotka_handle_why(r->at, r->length, f->at, f->length, at_end(packets[k], packet_lengths[k]), packet_lengths[k], a->at,
+                                          a->length, &reason);
+            CHECK(answer == number && reason == GRZELOTKA_REASON_NONE && all(a->at, a->length, 0) && unchanged(r, NULL));
+        } else {
             CHECK(a->at[0] == 0x11 && a->at[1] == 0x0E && all(a->at + a->at[2] + 3, a->length - a->at[2] - 3, 0));
-        if (!number)
             memcpy(r->at, before_record, RECORD);
+        }
     }
 }
 
@@ -508,6 +512,67 @@ static void key_cases(void) {
     CHECK(update_auth(key) == 0 && command(0x57) == 0 && command(0x57) == 0 && update_auth(key) == 1 && state() == 0xFF0A);
 }
 
+/* ---- the reasons */
+
+/* the reason of a packet that is taken, on a copy of the device by itself too: asking for it changes nothing */
+static uint8_t why(const uint8_t *packet, size_t length) {
+    uint8_t reason = 0xA5, given[RECORD], after[RECORD], said[8];
+    memcpy(given, record, RECORD);
+    CHECK(grzelotka_handle(record, RECORD, flash, FLASH, at_end(packet, length), length, reply, 8) == 0);
+    memcpy(after, record, RECORD), memcpy(said, reply, 8), memcpy(record, given, RECORD);
+    CHECK(grzelotka_handle_why(record, RECORD, flash, FLASH, at_end(packet, length), length, reply, 8, &reason) == 0);
+    CHECK(memcmp(after, record, RECORD) == 0 && memcmp(said, reply, 8) == 0 && (reason == 0 || reply[6] == 1));
+    return reason;
+}
+
+static uint8_t why_store(uint8_t type, uint8_t n) {
+    uint8_t packet[LONGEST];
+    make_packet(packet, 0xFC58, n + 2);
+    packet[4] = type;
+    return why(packet, n + 6u);
+}
+
+static uint8_t why_index(uint8_t opcode, uint8_t index) {
+    const uint8_t packet[5] = {0x10, opcode, 0xFC, 1, index};
+    return why(packet, 5);
+}
+
+static uint8_t why_plain(uint8_t opcode) {
+    const uint8_t packet[4] = {0x10, opcode, 0xFC, 0};
+    return why(packet, 4);
+}
+
+static void reason_cases(void) {
+    fresh_with_stack(0, 0);
+    for (int type = 0; type < 256; type++)
+        CHECK(why_store(type, 17) == (type < 1 || type > 3 ? GRZELOTKA_REASON_BAD_TYPE : GRZELOTKA_REASON_BAD_SIZE));
+    CHECK(why_plain(0x57) == 0 && reply[6] == 1 && why_plain(0x55) == 0 && reply[6] == 1 && why_plain(0x54) == 0 && reply[6] == 1);
+    CHECK(why_index(0x59, 0) == GRZELOTKA_REASON_NOT_STORED && why_index(0x59, 1) == GRZELOTKA_REASON_NOT_STORED);
+    CHECK(why_index(0x5D, 0) == GRZELOTKA_REASON_NOT_STORED && why_index(0x5D, 1) == GRZELOTKA_REASON_NOT_STORED);
+    CHECK(why_index(0x5E, 0) == GRZELOTKA_REASON_NOT_LOADED && why_index(0x5E, 1) == GRZELOTKA_REASON_NOT_LOADED);
+    CHECK(why_store(3, 44) == 0 && reply[7] == 1 && why_index(0x59, 1) == GRZELOTKA_REASON_NO_MASTER);
+    CHECK(why_index(0x5D, 1) == 0 && why_index(0x59, 1) == GRZELOTKA_REASON_LOCKED); /* locked comes before no master */
+    CHECK(restart() == 1 && why_store(2, 32) == 0 && why_store(2, 16) == GRZELOTKA_REASON_SECOND_MASTER);
+    CHECK(why_store(2, 17) == GRZELOTKA_REASON_BAD_SIZE && why_index(0x59, 1) == 0 && why_index(0x5E, 2) == GRZELOTKA_REASON_NOT_LOADED);
+    CHECK(why_index(0x5E, 1) == 0 && why_index(0x5E, 1) == GRZELOTKA_REASON_NOT_LOADED);
+    while (record[GRZELOTKA_KEYS_STORED] < 100)
+        CHECK(why_store(1, 16) == 0);
+    CHECK(why_store(1, 16) == GRZELOTKA_REASON_STORE_FULL && why_store(3, 28) == GRZELOTKA_REASON_STORE_FULL);
+    CHECK(why_store(1, 28) == GRZELOTKA_REASON_BAD_SIZE && why_store(2, 16) == GRZELOTKA_REASON_SECOND_MASTER && why_index(0x59, 100) == 0);
+    CHECK(why_index(0x59, 101) == GRZELOTKA_REASON_NOT_STORED && why_index(0x5D, 101) == GRZELOTKA_REASON_NOT_STORED);
+}
+
+/* with the stack running, and in a job, the same commands fail with no reason */
+static void no_reason_cases(void) {
+    for (int job = 0; job < 2; job++) {
+        fresh_with_stack(4, 7);
+        CHECK(command(job ? 0x55 : 0x5A) == 0);
+        CHECK(why_store(0, 16) == 0 && reply[6] == 1 && reply[7] == 0xFF && why_store(1, 17) == 0 && reply[6] == 1);
+        CHECK(why_index(0x59, 1) == 0 && reply[6] == 1 && why_index(0x5D, 1) == 0 && reply[6] == 1 && why_index(0x5E, 1) == 0 && reply[6] == 1);
+        CHECK(why_plain(0x52) == 0 && why_plain(0x5F) == 0);
+    }
+}
+
 /* was the first state request made? */
 static bool asked(void) {
     return record[GRZELOTKA_STATE_REQUESTED] == 1;
@@ -568,6 +633,8 @@ int main(int count, char **words) {
     rollback_cases();
     search_cases();
     key_cases();
+    reason_cases();
+    no_reason_cases();
     pair_cases();
     job_cases();
     printf("seed %d, ", from);

@@ -1,5 +1,5 @@
 /* Plays calls for the model: it maps the file it is given, which the model maps too, and for each request on standard input makes one call on
-   the buffers in that file and writes the answer to standard output. fuzz.py and damaged.py know the same places. */
+   the buffers in that file and writes the answer to standard output. playing.py knows the same places. */
 #include "grzelotka.h"
 #include "grzelotka_record.h"
 #include <stdbool.h>
@@ -11,7 +11,9 @@ int open(const char *, int, ...);
 void *mmap(void *, size_t, int, int, int, long);
 
 enum { RECORD_AT = 0, PACKET_AT = 8192, FILLER_AT = 12288, REPLY_AT = 20480, FLASH_AT = 24576, VERDICT_AT = 1048576, WHOLE = 2359296 };
-enum { FRESH, READ, HANDLE, RESTART, WORK, CUT, NEXT_MESSAGE, RECORD_BYTES, VERDICTS };
+/* of the serial line: the reader stands behind the packet, and what happened with each byte of a stream where verdicts would */
+enum { READER_AT = 11264, LOG_AT = VERDICT_AT, SERIAL_OUT = 12 };
+enum { FRESH, READ, HANDLE, RESTART, WORK, CUT, NEXT_MESSAGE, RECORD_BYTES, VERDICTS, HANDLE_WHY, SERIAL_BYTES, SERIAL_FRESH, SERIAL };
 
 struct request {
     uint32_t call, record, flash, packet, reply, filler, through;
@@ -39,12 +41,33 @@ static void verdicts(void) {
         }
 }
 
+/* A stream on the serial line, byte after byte, and a line of the log for each: the answer, how many bytes are sent, the reason, the out
+   buffer and one byte behind it, the reader, and whether the record is another; if so, all of the record follows. Answers with the log's
+   length. */
+static uint32_t serial(const struct request *q) {
+    static uint8_t before[GRZELOTKA_RECORD_BYTES];
+    uint8_t *log = file + LOG_AT, *record = file + RECORD_AT;
+    for (uint32_t i = 0; i < q->packet; i++) {
+        memcpy(before, record, sizeof before);
+        memset(log, 0xA5, 3 + SERIAL_OUT + 1);
+        log[0] = grzelotka_serial(at(RECORD_AT, q->record), q->record, at(FLASH_AT, q->flash), q->flash, at(READER_AT, q->filler), q->filler,
+                                  file[PACKET_AT + i], q->reply ? log + 3 : NULL, q->reply, log + 1, log + 2);
+        log += 3 + SERIAL_OUT + 1;
+        memcpy(log, file + READER_AT, 80); /* two bytes more than a reader has: none may change */
+        log += 80;
+        *log = memcmp(before, record, sizeof before) != 0;
+        if (*log++)
+            memcpy(log, record, sizeof before), log += sizeof before;
+    }
+    return log - (file + LOG_AT);
+}
+
 static struct answer play(const struct request *q) {
     uint8_t *record = at(RECORD_AT, q->record), *flash = at(FLASH_AT, q->flash), *packet = at(PACKET_AT, q->packet);
     uint8_t *reply = at(REPLY_AT, q->reply), *filler = at(FILLER_AT, q->filler);
     struct answer a = {0, 0, 0};
     uint16_t opcode = 0xA5A5;
-    uint8_t length = 0xA5;
+    uint8_t length = 0xA5, reason = 0xA5;
     switch (q->call) {
     case FRESH:
         a.answer = grzelotka_fresh(record, q->record);
@@ -68,6 +91,19 @@ static struct answer play(const struct request *q) {
         break;
     case NEXT_MESSAGE:
         a.answer = grzelotka_next_message(packet, q->packet, reply, q->reply);
+        break;
+    case HANDLE_WHY:
+        a.answer = grzelotka_handle_why(record, q->record, flash, q->flash, packet, q->packet, reply, q->reply, &reason);
+        a.first = reason;
+        break;
+    case SERIAL_BYTES:
+        a.answer = grzelotka_serial_bytes();
+        break;
+    case SERIAL_FRESH:
+        a.answer = grzelotka_serial_fresh(at(READER_AT, q->filler), q->filler);
+        break;
+    case SERIAL:
+        a.first = serial(q);
         break;
     case RECORD_BYTES:
         a.answer = grzelotka_record_bytes();

@@ -4,8 +4,8 @@
     tests/host/fuzz.py [--seed N] [--steps N] DRIVER..
 
 DRIVER.. runs driver.c. Packets and arguments are clean, rubbish, or broken but plausible; images are of many sizes and at many places, with
-each check failing; jobs run with works, cuts, restarts and packets between. After each step answer, record, flash and reply are compared in
-full. A mismatch prints the step, the call and the seed, and the status is 1.
+each check failing; jobs run with works, cuts, restarts and packets between; half of the packets are asked for their reason too. After each
+step answer, reason, record, flash and reply are compared in full. A mismatch prints the step, the call and the seed, and the status is 1.
 """
 import struct
 
@@ -134,7 +134,8 @@ class Run:
             packet = rng.randbytes(rng.choice([0, 1, 3, 4, 5, 8, 300, rng.randrange(301)]))
         if rng.random() < 0.1:
             self.pair.read(packet)
-        self.last = self.pair.handle(packet, self.room(8), **self.lengths('record', 'flash'))
+        handle = rng.choice([self.pair.handle, self.pair.handle_why])
+        self.last = handle(packet, self.room(8), **self.lengths('record', 'flash'))
 
     def works(self):
         rng = self.rng
@@ -207,7 +208,7 @@ class Run:
         self.pair.fresh(self.rng.choice([0, 1, model.RECORD - 1, model.RECORD + 1]))
         self.pair.fresh()
         for _ in range(self.rng.choice([0, 0, 0, 5, 60, 220])):
-            self.pair.handle(lawful(self.rng, 0xFC58))
+            self.pair.handle_why(lawful(self.rng, 0xFC58))
 
     def step(self):
         rng, device = self.rng, self.pair.device
@@ -221,7 +222,7 @@ def run(pair, rng, steps):
     run = Run(pair, rng)
     while pair.steps < steps:
         run.step()
-    return f'{pair.steps} steps'
+    return f'{pair.steps} steps, reasons {sorted(pair.reasons)}'
 
 
 if __name__ == '__main__':

@@ -1,4 +1,4 @@
-"""The stand-in once more, written from paper 01 alone: slow, plain, and sharing nothing with the crates.
+"""The stand-in once more, written from paper 01 and from 02's list of reasons alone: slow, plain, and sharing nothing with the crates.
 
 A Device holds what the paper lists under "Kept" and "Lost". Each call returns its refusal number (0: taken) and changes device, flash and
 reply buffer in place, as the paper says; it takes None for a record that is no sound device's. `record_bytes` lays a device out as
@@ -211,6 +211,31 @@ def command(device, flash, opcode, payload):
     error, byte = idle(device, flash, opcode, payload)
     device.error = error
     return (0x01 if error else 0x00), byte
+
+
+def reason(device, opcode, payload):
+    """Why a key's command will be turned down: the first test of paper 02's list that holds, or 0. Asked before the command is carried out."""
+    if device.stack_runs or device.job:
+        return 0
+    index = payload[0] if payload else 0
+    kinds = [2 if device.master is not None else None] + [kind for kind, _ in device.keys]
+    stored = index != 0 and index < len(kinds)
+    tests = {
+        0xFC58: ((1, index not in KEY_SIZES), (2, len(payload) - 2 not in KEY_SIZES.get(index, ())),
+                 (3, index == 2 and kinds[0] == 2), (4, index in (1, 3) and len(device.keys) >= MOST_KEYS)),
+        0xFC59: ((5, not stored), (6, index in device.locked), (7, stored and kinds[index] == 3 and kinds[0] is None)),
+        0xFC5D: ((5, not stored),),
+        0xFC5E: ((8, device.loaded == 0 or index != device.loaded),),
+    }
+    return next((number for number, holds in tests.get(opcode, ()) if holds), 0)
+
+
+def handle_why(device, flash, packet, reply):
+    """(refusal, reason)."""
+    refusal, opcode, _ = read(packet)
+    why = reason(device, opcode, packet[4:]) if device is not None and refusal == 0 else 0
+    refusal = handle(device, flash, packet, reply)
+    return refusal, 0 if refusal else why
 
 
 def handle(device, flash, packet, reply):

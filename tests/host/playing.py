@@ -12,8 +12,10 @@ import tempfile
 import model
 
 RECORD_AT, PACKET_AT, FILLER_AT, REPLY_AT, FLASH_AT, VERDICT_AT, WHOLE = 0, 8192, 12288, 20480, 24576, 1048576, 2359296
-FRESH, READ, HANDLE, RESTART, WORK, CUT, NEXT_MESSAGE, RECORD_BYTES, VERDICTS = range(9)
-NAMES = 'fresh', 'read', 'handle', 'restart', 'work', 'cut', 'next_message', 'record_bytes', 'verdicts'
+READER_AT, LOG_AT = 11264, VERDICT_AT
+FRESH, READ, HANDLE, RESTART, WORK, CUT, NEXT_MESSAGE, RECORD_BYTES, VERDICTS, HANDLE_WHY, SERIAL_BYTES, SERIAL_FRESH, SERIAL = range(13)
+NAMES = ('fresh', 'read', 'handle', 'restart', 'work', 'cut', 'next_message', 'record_bytes', 'verdicts', 'handle_why', 'serial_bytes',
+         'serial_fresh', 'serial')
 
 memcmp = ctypes.CDLL(None).memcmp
 memcmp.argtypes = [ctypes.c_void_p, ctypes.c_void_p, ctypes.c_size_t]
@@ -32,6 +34,7 @@ class Pair:
         """`command` runs the driver; it is given the file's name."""
         self.command = command
         self.steps = 0
+        self.reasons = set()  # those given so far
         self.flash = bytearray(b'\xFF' * model.FLASH)
         self.device = None  # of the record that stands there, by the model; None where it is no sound device's
         handle, name = tempfile.mkstemp()
@@ -133,6 +136,15 @@ class Pair:
         said = self.raw(HANDLE, record, flash, len(packet), room)
         device, lent = self.lent(record, flash)
         self.answered(said, model.handle(device, lent, packet, reply), reply, given, record)
+        return bytes(reply)
+
+    def handle_why(self, packet, room=8, record=model.RECORD, flash=model.FLASH):
+        reply, given = self.buffers(room, packet)
+        said = self.raw(HANDLE_WHY, record, flash, len(packet), room)
+        device, lent = self.lent(record, flash)
+        refusal, reason = model.handle_why(device, lent, packet, reply)
+        self.reasons.add(reason)
+        self.answered(said, refusal, reply, given, record, reason)
         return bytes(reply)
 
     def restart(self, room=6, record=model.RECORD):
