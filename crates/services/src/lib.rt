@@ -134,11 +134,8 @@ fn turn_away(reply: &mut [u8], refusal: Refusal) -> Told
     ensures { λ r. ⌜ r ≡ record { verdict = Verdict.Refused refusal; reason = 0 } ⌝ }
     ensures { λ _. ⌜ now (reply .exit) ≡ zeros (length (now (reply .entry))) ⌝ }
 {
-    reply::clear(reply);
-    Told {
-        verdict: Verdict::Refused(refusal),
-        reason: 0,
-    }
+    let verdict = refuse(reply, refusal);
+    Told { verdict, reason: 0 }
 }
 
 // The response to a command, written.
