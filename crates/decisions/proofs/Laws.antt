@@ -19,4 +19,3 @@ module _ (tag p size version recorded : ℕ) where
       go false true c = refl
       go false false true = refl
       go false false false = refl
-

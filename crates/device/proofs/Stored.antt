@@ -71,7 +71,6 @@ module _ (tag p size version recorded : ℕ) where
       go false false true = refl
       go false false false = refl
 
-
   pub idle-by : eqb tag 1 ≡ isIdle (modeOf tag p size version recorded)
   unfolding pick
   idle-by = go (eqb tag 0) (eqb tag 1) (eqb tag 2) refl refl
@@ -120,4 +119,3 @@ module _ (d : Device) where
       go Idle e = let z : false ≡ true = rw e at j in absurd (never z)
       go (Upgrade p size version recorded) e = rw e
       go (Delete recorded) e = rw e
-

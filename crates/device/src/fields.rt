@@ -496,7 +496,11 @@ fn put_key(rec: &mut [u8], slot: usize, kind: u8, key: &[u8])
 {
     set_at(&mut rec[places::KINDS..places::SIZES], slot, kind);
     set_at(&mut rec[places::SIZES..places::KEYS], slot, key.len() as u8);
-    put(&mut rec[places::KEYS..places::LENGTH], slot * places::SLOT, key);
+    put(
+        &mut rec[places::KEYS..places::LENGTH],
+        slot * places::SLOT,
+        key,
+    );
 }
 
 // A key into its slot, with its type and its size.

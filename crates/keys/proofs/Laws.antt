@@ -24,4 +24,3 @@ few kind n false h e =
 
 pub small : (kind n : ℕ) → keyLawful kind n ≡ true → n ≤ 44
 small kind n e = few kind n (leb n 44) refl e
-

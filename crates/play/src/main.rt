@@ -18,7 +18,12 @@ fn packet(rec: &mut [u8], flash: &mut [u8], line: &[u8], hex: usize) {
     let mut reply = [0u8; 8];
     let told = services::handle(rec, flash, &bytes[..n], &mut reply);
     let verdict = told.verdict;
-    say::outcome(verdict, b"reply ", reply::next_message(b"", &reply), told.reason);
+    say::outcome(
+        verdict,
+        b"reply ",
+        reply::next_message(b"", &reply),
+        told.reason,
+    );
 }
 
 fn restart(rec: &mut [u8]) {

@@ -176,18 +176,17 @@ fn answer_to(
 }
 
 // Handles a packet on the record of a device of any kind.
-fn handle_as(
-    k: Numbers,
-    rec: &mut [u8],
-    flash: &mut [u8],
-    packet: &[u8],
-    reply: &mut [u8],
-) -> Told
+fn handle_as(k: Numbers, rec: &mut [u8], flash: &mut [u8], packet: &[u8], reply: &mut [u8]) -> Told
     requires { ⌜ Sensible k ⌝ }
     ensures { λ r. ⌜ handlePlaced (r .verdict) (now (rec .exit)) (now (flash .exit)) (now (reply .exit)) (r .reason) ≡ handledInPlace k (now (rec .entry)) (now (flash .entry)) (now (packet .entry)) (now (reply .entry)) ⌝ }
 {
     let sound = soundness::is_sound(rec, k.size, k.top);
-    let verdict = gate(sound, flash.len() == k.count * k.size, 8 <= reply.len(), true);
+    let verdict = gate(
+        sound,
+        flash.len() == k.count * k.size,
+        8 <= reply.len(),
+        true,
+    );
     match verdict {
         Verdict::Taken => {
             let reading = packet::read(packet);

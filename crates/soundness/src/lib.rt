@@ -232,13 +232,7 @@ fn loaded_sound(kind: u8, master: u8) -> bool
 }
 
 // All that the arrays say.
-fn keys_sound<'a>(
-    count: u8,
-    loaded: u8,
-    kinds: &'a [u8],
-    sizes: &'a [u8],
-    locks: &'a [u8],
-) -> bool
+fn keys_sound<'a>(count: u8, loaded: u8, kinds: &'a [u8], sizes: &'a [u8], locks: &'a [u8]) -> bool
     requires { ⌜ (length (now kinds) ≡ 101) × ((length (now sizes) ≡ 101) × (length (now locks) ≡ 101)) ⌝ }
     ensures { λ r. ⌜ r ≡ keysSound count loaded (now (kinds .entry)) (now (sizes .entry)) (now (locks .entry)) ⌝ }
 {

@@ -32,7 +32,7 @@ enum-told : tie.Need-enum-told
 enum-told c = search needs
 
 has-job-requires : tie.Need-has-job-requires
-has-job-requires c κs = 
+has-job-requires c κs =
     let g = c .before .before .before in
     let a = g .before .before .before .before .before .before .before .before .before .args in
     let l = a .rec .now in
@@ -42,7 +42,7 @@ has-job-requires c κs =
 
 cut-on-requires : tie.Need-cut-on-requires
 unfolding decode headIn
-cut-on-requires c κs = 
+cut-on-requires c κs =
     let g = c .before .before .before .before .before .before .before .before in
     let a = g .before .before .before .before .before .before .before .before .before .args in
     let l = a .rec .now in
@@ -52,7 +52,7 @@ cut-on-requires c κs =
     (g .before .before .before .before .before .before .before .before .before .pre, ((o .whole, eqb-true _ _ (o .length)), (via _ _ _ (c .before .before .before .before .has-job .ensures) (c .before .before .before .if1 .taken), eqb-true _ _ (o .filler))))
 
 start-requires : tie.Need-start-requires
-start-requires c κs = 
+start-requires c κs =
     let g = c .before .before .before .before .before .before .before in
     let a = g .before .before .before .before .before .before .before .before .before .args in
     let l = a .rec .now in
@@ -77,7 +77,7 @@ same-length-3 c = search needs
 
 returns : tie.Need-returns
 unfolding decode headIn pick
-returns c = 
+returns c =
     let g = c .before .before .before .before .before .before .before .before .before .before .before .before .before .before .before in
     let a = g .before .before .before .before .before .before .before .before .before .args in
     let l = a .rec .now in
@@ -94,7 +94,7 @@ same-length-5 c = search needs
 
 returns-2 : tie.Need-returns-2
 unfolding decode headIn pick
-returns-2 c = 
+returns-2 c =
     let g = c .before .before .before .before .before .before .before .before .before .before .before .before in
     let a = g .before .before .before .before .before .before .before .before .before .args in
     let l = a .rec .now in
@@ -112,7 +112,7 @@ same-length-7 : tie.Need-same-length-7
 same-length-7 c = search needs
 
 returns-3 : tie.Need-returns-3
-returns-3 c = 
+returns-3 c =
     let g = c .before .before .before .before .before .before .before in
     let a = g .before .before .before .before .before .before .before .before .before .args in
     let l = a .rec .now in

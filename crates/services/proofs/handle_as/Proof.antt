@@ -35,7 +35,7 @@ enum-known-reading : tie.Need-enum-known-reading
 enum-known-reading c = search needs
 
 answer-to-requires : tie.Need-answer-to-requires
-answer-to-requires c κs = 
+answer-to-requires c κs =
     let g = c .before .before .before .before .before .before .before .before .before in
     let a = g .before .before .before .before .before .before .before .before .args in
     let l = a .rec .now in
@@ -78,7 +78,7 @@ same-length-3 : tie.Need-same-length-3
 same-length-3 c = search needs
 
 returns : tie.Need-returns
-returns c = 
+returns c =
     let g = c .before .before .before .before .before .before .before .before .before .before .before .before .before .before .before .before in
     let a = g .before .before .before .before .before .before .before .before .args in
     let l = a .rec .now in
@@ -95,7 +95,7 @@ same-length-5 : tie.Need-same-length-5
 same-length-5 c = search needs
 
 returns-2 : tie.Need-returns-2
-returns-2 c = 
+returns-2 c =
     let g = c .before .before .before .before .before .before .before .before .before .before in
     let a = g .before .before .before .before .before .before .before .before .args in
     let l = a .rec .now in
@@ -113,7 +113,7 @@ same-length-7 : tie.Need-same-length-7
 same-length-7 c = search needs
 
 returns-3 : tie.Need-returns-3
-returns-3 c = 
+returns-3 c =
     let g = c .before .before .before .before .before .before .before in
     let a = g .before .before .before .before .before .before .before .before .args in
     let l = a .rec .now in

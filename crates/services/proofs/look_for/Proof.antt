@@ -29,7 +29,7 @@ auth-key-requires c κs = search needs
 
 check-requires : tie.Need-check-requires
 unfolding decode headIn
-check-requires c κs = 
+check-requires c κs =
     let st = c .before .before .before .before .before .before .before .before .before in
     let s = st .pre .0 in
     let p = st .pre .1 .1 in

@@ -25,7 +25,7 @@ enum-told : tie.Need-enum-told
 enum-told c = search needs
 
 start-requires : tie.Need-start-requires
-start-requires c κs = 
+start-requires c κs =
     let g = c .before .before .before .before in
     let a = g .before .before .before .before .before .args in
     let l = a .rec .now in
@@ -47,7 +47,7 @@ same-length-2 c = search needs
 
 returns : tie.Need-returns
 unfolding decode
-returns c = 
+returns c =
     let g = c .before .before .before .before .before .before .before .before .before in
     let a = g .before .before .before .before .before .args in
     let l = a .rec .now in
@@ -63,7 +63,7 @@ same-length-4 : tie.Need-same-length-4
 same-length-4 c = search needs
 
 returns-2 : tie.Need-returns-2
-returns-2 c = 
+returns-2 c =
     let g = c .before .before .before .before .before .before .before in
     let a = g .before .before .before .before .before .args in
     let l = a .rec .now in

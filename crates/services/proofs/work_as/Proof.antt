@@ -30,7 +30,7 @@ enum-told : tie.Need-enum-told
 enum-told c = search needs
 
 has-job-requires : tie.Need-has-job-requires
-has-job-requires c κs = 
+has-job-requires c κs =
     let g = c .before .before .before in
     let a = g .before .before .before .before .before .before .args in
     let l = a .rec .now in
@@ -40,7 +40,7 @@ has-job-requires c κs =
 
 work-on-requires : tie.Need-work-on-requires
 unfolding decode headIn
-work-on-requires c κs = 
+work-on-requires c κs =
     let g = c .before .before .before .before .before .before .before .before in
     let a = g .before .before .before .before .before .before .args in
     let l = a .rec .now in
@@ -59,7 +59,7 @@ same-length-2 c = search needs
 
 returns : tie.Need-returns
 unfolding decode headIn pick
-returns c = 
+returns c =
     let g = c .before .before .before .before .before .before .before .before .before .before .before .before .before in
     let a = g .before .before .before .before .before .before .args in
     let l = a .rec .now in
@@ -73,7 +73,7 @@ same-length-3 c = search needs
 
 returns-2 : tie.Need-returns-2
 unfolding decode headIn pick
-returns-2 c = 
+returns-2 c =
     let g = c .before .before .before .before .before in
     let a = g .before .before .before .before .before .before .args in
     let l = a .rec .now in
@@ -86,7 +86,7 @@ same-length-4 : tie.Need-same-length-4
 same-length-4 c = search needs
 
 returns-3 : tie.Need-returns-3
-returns-3 c = 
+returns-3 c =
     let g = c .before .before .before in
     let a = g .before .before .before .before .before .before .args in
     let l = a .rec .now in

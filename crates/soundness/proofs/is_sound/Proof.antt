@@ -55,7 +55,7 @@ keys-sound-requires c κs = search needs
 
 returns-2 : tie.Need-returns-2
 unfolding soundRecord sound decode
-returns-2 c = 
+returns-2 c =
     let l = c .before .before .before .before .before .before .before .before .before .before .before .args .rec .now in
     let n : eqb (length l) recordLength ≡ true = eq-eqb _ _ (c .before .before .before .before .before .before .before .before .before .if1 .left) in
     let h : isHead l ≡ true = via _ _ _ (c .before .before .before .before .before .before .before .is-head .ensures) (c .before .before .before .before .before .before .if2 .taken) in
@@ -65,7 +65,7 @@ returns-2 c =
 
 returns-3 : tie.Need-returns-3
 unfolding soundRecord sound decode
-returns-3 c = 
+returns-3 c =
     let l = c .before .before .before .before .before .before .before .args .rec .now in
     let n : eqb (length l) recordLength ≡ true = eq-eqb _ _ (c .before .before .before .before .before .if1 .left) in
     let h : isHead l ≡ true = via _ _ _ (c .before .before .before .is-head .ensures) (c .before .before .if2 .taken) in
@@ -75,7 +75,7 @@ returns-3 c =
 
 returns-4 : tie.Need-returns-4
 unfolding soundRecord
-returns-4 c = 
+returns-4 c =
     let l = c .before .before .before .before .before .args .rec .now in
     let n : eqb (length l) recordLength ≡ true = eq-eqb _ _ (c .before .before .before .if1 .left) in
     let h : isHead l ≡ false = via _ _ _ (c .before .is-head .ensures) (c .if2 .left) in

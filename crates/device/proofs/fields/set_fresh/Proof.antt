@@ -23,7 +23,7 @@ same-length c = search needs
 
 returns : tie.Need-returns
 unfolding freshDevice
-returns c = 
+returns c =
     let z = c .before .before .before .before .before .before .before .before .before .before .clear .ensures ∙ ap zeros (c .before .before .before .before .before .before .before .before .before .before .before .before .before .pre) ∙ zeros-blank in
     c .before .before .set-mode .ensures _ (c .before .before .before .before .before .before .set-stack .ensures blank z)
 
