@@ -35,21 +35,18 @@ fn flash() -> [u8; 999424] {
     [0; 999424]
 }
 
-// The unsound one has a boundary that only a stack gives. Where there is a stack, key 1 is stored, loaded and locked; one that runs was asked
-// for its state once.
+// Where there is a stack, key 1 is stored, loaded and locked; a stack that runs was asked for its state once. The unsound one has a delete under way
+// and no stack.
 fn device(kind: u8) -> Device {
     let d = Device::fresh();
     if kind == b'i' {
         return d;
     }
     let mut bytes = d.bytes;
-    bytes[places::BOUNDARY] = 240;
-    if kind == b'u' {
-        return Device { bytes };
-    }
-    bytes[places::PRESENT] = 1;
+    bytes[places::PRESENT] = (kind != b'u') as u8;
     bytes[places::VERSION] = 5;
     bytes[places::SECTORS] = 4;
+    bytes[places::BOUNDARY] = 240;
     bytes[places::MODE] = if kind == b's' { 0 } else { 3 };
     bytes[places::ASKED] = (kind == b's') as u8;
     bytes[places::COUNT] = 1;
@@ -132,28 +129,22 @@ fn call(row: [u8; 6], d: Device, flash: &mut [u8], filler: &[u8], reply: &mut [u
     }
 }
 
-// Gives the call of a row its buffers, without what they lack.
+// Gives the call of a row its buffers, without the bytes that they lack.
 fn lend(row: [u8; 6], d: Device, flash: &mut [u8], filler: &[u8], reply: &mut [u8]) -> Device {
-    let n = row[2] as usize;
-    let lent = row[3] as usize;
-    let filled = row[4] as usize;
-    if n <= reply.len() {
-        if lent <= flash.len() {
-            if filled <= filler.len() {
-                return call(
-                    row,
-                    d,
-                    &mut flash[lent..],
-                    &filler[filled..],
-                    &mut reply[n..],
-                );
+    let a = row[2] as usize;
+    let b = row[3] as usize;
+    let c = row[4] as usize;
+    if a <= reply.len() {
+        if b <= flash.len() {
+            if c <= filler.len() {
+                return call(row, d, &mut flash[b..], &filler[c..], &mut reply[a..]);
             }
         }
     }
     d
 }
 
-// Whether each byte of the first is the second's too.
+// Whether each byte of the first is the second's, past whose end there are zeros.
 fn same(a: &[u8], b: &[u8]) -> bool {
     let mut i = 0;
     while i < a.len() {
@@ -179,10 +170,9 @@ fn say_device(d: Device) {
 
 // The device after a call, and what changed; the flash was all zeros.
 fn say_changes(before: Device, after: Device, now: &[u8]) {
-    let zeros = flash();
     say_device(after);
     say_if(!same(&before.bytes, &after.bytes), b", device changed");
-    say_if(!same(now, &zeros), b", flash changed");
+    say_if(!same(now, b""), b", flash changed");
     say(b"\n");
 }
 
