@@ -1,4 +1,5 @@
-"""bin/play beside the model of paper 01: what each line is to be answered, worked out anew from docs/PLAY.md.
+"""bin/play beside the model of paper 01: what each line is to be answered, worked out anew from docs/PLAY.md. Scripts with known answers
+(scripts.py) come first, then every order and every bad line, then random ones.
 
     outside.py ROOT SEED
 """
@@ -13,8 +14,13 @@ import tempfile
 
 import fuzz
 import model
+import scripts
 
 LINES = 4000
+
+
+# why a key was turned down, as the player says it behind the reply
+REASONS = ['', ' bad type', ' bad size', ' second master', ' store full', ' not stored', ' locked', ' no master', ' not loaded']
 
 
 class Wrong(Exception):
@@ -51,8 +57,8 @@ class Expected:
         if len(digits) % 2 or not re.fullmatch(rb'[0-9A-Fa-f]*', digits):
             return 'bad packet: no hex pairs'
         reply = bytearray(8)
-        refusal = model.handle(self.device, self.flash, bytes.fromhex(digits.decode()), reply)
-        return f'refused {refusal}' if refusal else 'reply ' + reply[:reply[2] + 3].hex().upper()
+        refusal, reason = model.handle_why(self.device, self.flash, bytes.fromhex(digits.decode()), reply)
+        return f'refused {refusal}' if refusal else 'reply ' + reply[:reply[2] + 3].hex().upper() + REASONS[reason]
 
     def restart(self):
         event = bytearray(6)
@@ -287,6 +293,21 @@ def whole(program):
         raise Wrong('one line in, one line out')
 
 
+def scripted(program, name, pairs):
+    """A script whose answers are known: bin/play gives them, and so does the model. How many lines it has."""
+    run = Run(program)
+    try:
+        for line, wanted in pairs:
+            said = run.ask(line.encode())
+            if said != wanted:
+                raise Wrong(f'line {run.lines}, {line[:80]!r}: {said[:80]!r}, where {wanted[:80]!r} is to be')
+        lines = run.lines
+        run.close()
+    except Wrong as wrong:
+        raise Wrong(f'{name}: {wrong}') from None
+    return lines
+
+
 def example(root, program):
     """The example of docs/PLAY.md, as it stands there."""
     text = open(os.path.join(root, 'docs', 'PLAY.md')).read()
@@ -316,6 +337,7 @@ def main():
             example(root, program)
             wrapper(program, folder)
             os.chdir(folder)
+            lines = [scripted(program, name, pairs) for name, pairs in scripts.all_of(os.path.join(root, 'tests', 'play', 'scripts'))]
             run = Run(program)
             words(run)
             incident(run, folder)
@@ -326,6 +348,7 @@ def main():
             print(f'tests/play: {wrong} (seed {seed})')
             return 1
     print(f'tests/play: {run.lines} lines answered as the model has it, {len(BAD)} bad ones among them, a whole script twice, the example of docs/PLAY.md (seed {seed})')
+    print(f'tests/play: {len(lines)} scripts of {sum(lines)} lines with the answers that are stored or worked out for them')
     return 0
 
 

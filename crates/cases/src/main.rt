@@ -1,32 +1,70 @@
-// Runs the calls on devices by value and a flash of 999,424 bytes, and writes a line for each: taken or the number of the refusal, the whole
-// reply buffer, the device after it, whether flash changed, then what was asked.
+// The calls by value, each with all the faults that no script of `play` can have, then with one after the other mended, until it is taken. A
+// line has the call and its faults, then the answer, the whole reply buffer and the device after it; where device or flash changed, it says so.
 use device::Device;
-use device::Head;
 use device::Mode;
+use device::places;
 use libc::STDOUT_FILENO;
 use services::Verdict;
+use services::value;
 
-const GET_STATE: [u8; 4] = *b"\x10\x52\xFC\x00";
-
-const UPGRADE: [u8; 4] = *b"\x10\x54\xFC\x00";
-
-const DELETE: [u8; 4] = *b"\x10\x55\xFC\x00";
+// A row: the call (handle, restart, work, cut); the device (unsound; idle; its stack running; with a delete under way); how many bytes the reply
+// buffer lacks of 12, the flash and the filler of their lengths; the packet's first byte.
+const ROWS: [[u8; 6]; 19] = [
+    [b'h', b'u', 5, 1, 0, 0x11],
+    [b'h', b's', 5, 1, 0, 0x11],
+    [b'h', b's', 5, 0, 0, 0x11],
+    [b'h', b's', 0, 0, 0, 0x11],
+    [b'h', b's', 0, 0, 0, 0x10],
+    [b'r', b'u', 7, 0, 0, 0],
+    [b'r', b's', 7, 0, 0, 0],
+    [b'r', b's', 6, 0, 0, 0],
+    [b'r', b'd', 0, 0, 0, 0],
+    [b'w', b'u', 12, 1, 0, 0],
+    [b'w', b'd', 12, 1, 0, 0],
+    [b'w', b'd', 12, 0, 0, 0],
+    [b'w', b'i', 12, 0, 0, 0],
+    [b'c', b'u', 7, 1, 1, 0],
+    [b'c', b'd', 7, 1, 1, 0],
+    [b'c', b'd', 7, 0, 1, 0],
+    [b'c', b'd', 0, 0, 1, 0],
+    [b'c', b'i', 0, 0, 1, 0],
+    [b'c', b'd', 0, 0, 0, 0],
+];
 
 fn flash() -> [u8; 999424] {
-    [0xFF; 999424]
+    [0; 999424]
 }
 
-// What a cut leaves in a sector.
-fn filler() -> [u8; 4096] {
-    [0x5A; 4096]
+// Where there is a stack, key 1 is stored, loaded and locked; a stack that runs was asked for its state once. The unsound one has a delete under way
+// and no stack.
+fn device(kind: u8) -> Device {
+    let d = Device::fresh();
+    if kind == b'i' {
+        return d;
+    }
+    let mut bytes = d.bytes;
+    bytes[places::PRESENT] = (kind != b'u') as u8;
+    bytes[places::VERSION] = 5;
+    bytes[places::SECTORS] = 4;
+    bytes[places::BOUNDARY] = 240;
+    bytes[places::MODE] = if kind == b's' { 0 } else { 3 };
+    bytes[places::ASKED] = (kind == b's') as u8;
+    bytes[places::COUNT] = 1;
+    bytes[places::KINDS + 1] = 1;
+    bytes[places::SIZES + 1] = 16;
+    bytes[places::LOADED] = 1;
+    bytes[places::LOCKS + 1] = 1;
+    Device { bytes }
 }
 
 fn say(text: &[u8]) {
     io::write_all(STDOUT_FILENO, text);
 }
 
-fn say_number(n: usize) {
-    io::print_decimal(STDOUT_FILENO, n as u64);
+fn say_if(told: bool, text: &[u8]) {
+    if told {
+        say(text);
+    }
 }
 
 fn say_byte(byte: u8) {
@@ -41,386 +79,113 @@ fn say_bytes(bytes: &[u8]) {
     }
 }
 
-fn say_verdict(verdict: Verdict) {
+// The call and its faults, and what it answers.
+fn say_answer(call: &[u8], row: [u8; 6], verdict: Verdict, reply: &[u8]) {
+    say(call);
+    say_if(row[1] == b'u', b", record unsound");
+    say_if(row[3] == 1, b", flash short");
+    say_if((row[2] == 5) | (row[2] == 7), b", reply short");
+    say_if(row[4] == 1, b", filler short");
+    say_if(row[5] == 0x11, b", packet damaged");
     match verdict {
-        Verdict::Taken => say(b"taken "),
+        Verdict::Taken => say(b": taken "),
         Verdict::Refused(refusal) => {
-            say(b"no ");
-            say_number(packet::number(refusal) as usize);
+            say(b": refused ");
+            io::print_decimal(STDOUT_FILENO, packet::number(refusal) as u64);
             say(b" ");
         }
     }
-}
-
-fn say_mode(mode: Mode) {
-    match mode {
-        Mode::Stack => say(b" stack runs"),
-        Mode::Idle => say(b" FUS idle"),
-        Mode::Upgrade {
-            p: _,
-            size: _,
-            version: _,
-            recorded: _,
-        } => say(b" upgrade"),
-        Mode::Delete { recorded: _ } => say(b" delete"),
-    }
-}
-
-fn say_device(d: Device) {
-    let h = d.head;
-    let mode = h.mode;
-    say_mode(mode);
-    say(b", boundary ");
-    say_number(h.boundary as usize);
-    if h.error != 0 {
-        say(b", E ");
-        say_byte(h.error);
-    }
-    if h.asked {
-        say(b", asked");
-    }
-}
-
-// The line's end: what was asked.
-fn end(text: &[u8]) {
-    say(b": ");
-    say(text);
-    say(b"\n");
-}
-
-fn wide(byte: u8) -> u64 {
-    byte as u64
-}
-
-// A sum of sums, in which each byte counts by its place.
-fn sum(bytes: &[u8]) -> u64 {
-    let mut low = 0;
-    let mut high = 0;
-    let mut i = 0;
-    while i < bytes.len() {
-        low = std::num::wrapping_add_u64(low, wide(bytes[i]));
-        high = std::num::wrapping_add_u64(high, low);
-        i += 1;
-    }
-    high
-}
-
-// How many bytes of the sector are not 0xFF.
-fn used(flash: &[u8], sector: u32) -> u32 {
-    let mut n = 0u32;
-    for i in 0..4096 {
-        if basics::byte_at(flash, sector as usize * 4096 + i) != 0xFF {
-            n = std::num::wrapping_add_u32(n, 1);
-        }
-    }
-    n
-}
-
-// The sectors that are not erased, each with the number of its bytes that are not 0xFF.
-fn say_flash(flash: &[u8]) {
-    say(b"flash");
-    for sector in 0..244u32 {
-        let n = used(flash, sector);
-        if n != 0 {
-            say(b" ");
-            say_number(sector as usize);
-            say(b":");
-            say_number(n as usize);
-        }
-    }
-    say(b"\n");
-}
-
-fn put(flash: &mut [u8], at: u32, bytes: &[u8]) {
-    let at = at as usize;
-    if at < flash.len() {
-        if bytes.len() <= flash.len() - at {
-            bytes::copy(bytes, &mut flash[at..]);
-        }
-    }
-}
-
-// An image of version 7 at a sector: sealed, with no tag. Its first sector has 86 bytes that are not 0xFF, or 84 with no body.
-fn put_image(flash: &mut [u8], p: u8, size: u16, sum: &[u8; 4]) {
-    let at = p as u32 * 4096;
-    put(flash, at, &[0; 84]);
-    put(flash, at, b"BNI\x01\x00\x01\x01\x00");
-    put(flash, at + 8, &[(size % 256) as u8, (size / 256) as u8]);
-    put(flash, at + 12, &[7]);
-    put(flash, at + 16, sum);
-}
-
-// A packet on the device.
-fn ask(d: Device, flash: &mut [u8], packet: &[u8], reply: &mut [u8], text: &[u8]) -> Device {
-    let before = sum(flash);
-    let done = services::handle(d, flash, packet, reply);
-    let verdict = done.verdict;
-    say_verdict(verdict);
     say_bytes(reply);
-    say_device(done.device);
-    if sum(flash) != before {
-        say(b", flash changed");
-    }
-    end(text);
-    done.device
 }
 
-// So many stores, and where it is wanted the answer of each.
-fn play(d: Device, flash: &mut [u8], stores: usize, loud: bool) -> Device {
-    let mut d = d;
-    for _ in 0..stores {
-        let done = services::work(d, flash);
-        if loud {
-            say_number(done.left);
-            say(b" ");
+// Makes the call of a row, with GET_STATE as the packet, and says what it answers.
+fn call(row: [u8; 6], d: Device, flash: &mut [u8], filler: &[u8], reply: &mut [u8]) -> Device {
+    match row[0] {
+        b'h' => {
+            let done = value::handle(d, flash, &[row[5], 0x52, 0xFC, 0x00], reply);
+            let verdict = done.verdict;
+            say_answer(b"handle", row, verdict, reply);
+            done.device
         }
-        d = done.device;
+        b'r' => {
+            let done = value::restart(d, reply);
+            let verdict = done.verdict;
+            say_answer(b"restart", row, verdict, reply);
+            done.device
+        }
+        b'w' => {
+            let done = value::work(d, flash);
+            let verdict = done.verdict;
+            say_answer(b"work", row, verdict, b"");
+            io::print_decimal(STDOUT_FILENO, done.left as u64);
+            done.device
+        }
+        _ => {
+            let done = value::cut(d, flash, filler, true, reply);
+            let verdict = done.verdict;
+            say_answer(b"cut", row, verdict, reply);
+            done.device
+        }
+    }
+}
+
+// Gives the call of a row its buffers, without the bytes that they lack.
+fn lend(row: [u8; 6], d: Device, flash: &mut [u8], filler: &[u8], reply: &mut [u8]) -> Device {
+    let a = row[2] as usize;
+    let b = row[3] as usize;
+    let c = row[4] as usize;
+    if a <= reply.len() {
+        if b <= flash.len() {
+            if c <= filler.len() {
+                return call(row, d, &mut flash[b..], &filler[c..], &mut reply[a..]);
+            }
+        }
     }
     d
 }
 
-// An image of this size at p, on a fresh device.
-fn upgrade(p: u8, size: u16, text: &[u8]) {
-    let mut reply = [0xEE; 8];
-    let mut flash = flash();
-    put_image(&mut flash, p, size, b"\x00\x00\x00\x00");
-    say_flash(&flash);
-    let d = ask(Device::fresh(), &mut flash, &UPGRADE, &mut reply, text);
-    let d = ask(d, &mut flash, &GET_STATE, &mut reply, b"GET_STATE");
-    say(b"work answers ");
-    say_device(play(d, &mut flash, 6, true));
-    say(b"\n");
-    say_flash(&flash);
-}
-
-// A device with a stack of four sectors, on which the given program runs.
-fn with_stack(mode: Mode) -> Device {
-    let d = Device::fresh();
-    let h = d.head;
-    let head = Head {
-        present: true,
-        version: 5,
-        sectors: 4,
-        boundary: 240,
-        mode,
-        ..h
-    };
-    Device { head, ..d }
-}
-
-// A device whose record is unsound.
-fn unsound() -> Device {
-    let d = Device::fresh();
-    let h = d.head;
-    let head = Head { boundary: 0, ..h };
-    Device { head, ..d }
-}
-
-// A damaged packet on the device, while the response to a good one stands in the reply buffer.
-fn damaged(d: Device, packet: &[u8], text: &[u8]) -> Device {
-    let mut reply = *b"\x11\x0E\x05\xFF\x52\xFC\xFF\xFE\xEE\xEE\xEE\xEE";
-    let mut flash = flash();
-    ask(d, &mut flash, packet, &mut reply, text)
-}
-
-// The same with a buffer of another length, or an unsound record.
-fn misfits(d: Device) {
-    let mut short = [0xFF; 16];
-    let mut seven = *b"\x11\x0E\x05\xFF\x52\xFC\xFF";
-    let mut reply = *b"\x11\x0E\x05\xFF\x52\xFC\xFF\xFE\xEE\xEE\xEE\xEE";
-    ask(d, &mut short, &GET_STATE, &mut reply, b"flash of 16 bytes");
-    let mut flash = flash();
-    ask(d, &mut flash, &GET_STATE, &mut seven, b"reply of 7 bytes");
-    damaged(unsound(), &GET_STATE, b"unsound record");
-}
-
-// The mailbox incident, between the two state requests to a running stack.
-fn incident() {
-    say(b"A good reply stands, then a damaged command\n");
-    let d = damaged(with_stack(Mode::Stack), &GET_STATE, b"GET_STATE");
-    let d = damaged(d, b"", b"no byte");
-    let d = damaged(d, b"\x10\x52\xFC", b"3 bytes");
-    let d = damaged(d, b"\x11\x52\xFC\x00", b"first byte 11");
-    let d = damaged(d, b"\x10\x52\xFC\x01", b"length 1, none follows");
-    let d = damaged(d, b"\x10\x53\xFC\x00", b"opcode FC53");
-    let d = damaged(d, b"\x10\x52\xFC\x01\x00", b"GET_STATE with a payload");
-    let d = damaged(d, b"\x10\x58\xFC\x03\x01\x02\x00", b"STORE, N 2 for 1 byte");
-    misfits(d);
-    damaged(d, &GET_STATE, b"the second GET_STATE: FUS runs");
-}
-
-// Every refusal of handle: all faults at once, then one after the other mended.
-fn handle_refuses() {
-    say(b"handle\n");
-    let d = Device::fresh();
-    let mut short = [0xFF; 16];
-    let mut seven = [0xEE; 7];
-    ask(unsound(), &mut short, b"", &mut seven, b"all faults");
-    ask(d, &mut short, b"", &mut seven, b"the record mended");
-    let mut flash = flash();
-    ask(d, &mut flash, b"", &mut seven, b"flash");
-    damaged(d, b"\x11\x53\xFC", b"the reply buffer");
-    damaged(d, b"\x11\x53\xFC\x01", b"4 bytes");
-    damaged(d, b"\x10\x53\xFC\x01", b"the first byte");
-    damaged(d, b"\x10\x53\xFC\x01\x01", b"the length");
-    damaged(d, b"\x10\x58\xFC\x01\x01", b"the opcode");
-    damaged(d, b"\x10\x58\xFC\x02\x01\x01", b"the payload's length");
-    damaged(
-        d,
-        b"\x10\x58\xFC\x02\x01\x00",
-        b"N, of a key with no byte: E FF",
-    );
-}
-
-// A restart on the device.
-fn restart(d: Device, event: &mut [u8], text: &[u8]) {
-    let done = services::restart(d, event);
-    let verdict = done.verdict;
-    say_verdict(verdict);
-    say_bytes(event);
-    say_device(done.device);
-    end(text);
-}
-
-// The next store of a job is cut.
-fn cut(d: Device, flash: &mut [u8], filler: &[u8], through: bool, event: &mut [u8]) -> Device {
-    let done = services::cut(d, flash, filler, through, event);
-    let verdict = done.verdict;
-    say_verdict(verdict);
-    say_bytes(event);
-    say_device(done.device);
-    done.device
-}
-
-fn work(d: Device, flash: &mut [u8], text: &[u8]) {
-    let done = services::work(d, flash);
-    let verdict = done.verdict;
-    say_verdict(verdict);
-    say_number(done.left);
-    say_device(done.device);
-    end(text);
-}
-
-fn restart_and_work_refuse() {
-    let d = with_stack(Mode::Idle);
-    let mut short = [0xFF; 16];
-    let mut five = [0xEE; 5];
-    let mut event = [0xEE; 8];
-    say(b"restart\n");
-    restart(unsound(), &mut five, b"all faults");
-    restart(d, &mut five, b"the record mended");
-    restart(d, &mut event, b"the event buffer");
-    restart(with_stack(Mode::Stack), &mut event, b"the stack runs");
-    say(b"work\n");
-    work(unsound(), &mut short, b"all faults");
-    work(d, &mut short, b"the record mended");
-    let mut flash = flash();
-    work(d, &mut flash, b"flash: no job");
-}
-
-fn cut_refuses() {
-    let d = with_stack(Mode::Idle);
-    let mut short = [0xFF; 16];
-    let mut five = [0xEE; 5];
-    let mut event = [0xEE; 8];
-    say(b"cut\n");
-    cut(unsound(), &mut short, b"", true, &mut five);
-    end(b"all faults");
-    cut(d, &mut short, b"", true, &mut five);
-    end(b"the record mended");
-    let mut flash = flash();
-    cut(d, &mut flash, b"", true, &mut five);
-    end(b"flash");
-    cut(d, &mut flash, b"", true, &mut event);
-    end(b"the event buffer");
-    let filler = filler();
-    cut(d, &mut flash, &filler, true, &mut event);
-    end(b"the filler: no job, a restart only");
-}
-
-// An image of 4,100 bytes at 237 with something behind it.
-fn put_body(flash: &mut [u8]) {
-    put_image(flash, 237, 4100, b"\x19\xFC\xFF\xFF");
-    put(flash, 237 * 4096 + 84, b"\x01\x00\x00\x00");
-    put(flash, 238 * 4096, b"\x02\x00\x00\x00behind");
-}
-
-// An old stack in 240 to 243.
-fn put_stack(flash: &mut [u8]) {
-    put(flash, 240 * 4096, b"old");
-    put(flash, 241 * 4096, b"old");
-    put(flash, 242 * 4096, b"old");
-    put(flash, 243 * 4096, b"old");
-}
-
-// Both, and the user's own bytes in 236 and 239.
-fn lay_out(flash: &mut [u8]) {
-    put_body(flash);
-    put_stack(flash);
-    put(flash, 236 * 4096, b"mine");
-    put(flash, 239 * 4096 + 4092, b"mine");
-}
-
-// A job played to its end; the sum of the flash at its end.
-fn job(packet: &[u8], stores: usize, text: &[u8]) -> u64 {
-    let mut reply = [0xEE; 8];
-    let mut flash = flash();
-    lay_out(&mut flash);
-    say_flash(&flash);
-    let d = ask(with_stack(Mode::Idle), &mut flash, packet, &mut reply, text);
-    let d = ask(d, &mut flash, &GET_STATE, &mut reply, b"GET_STATE");
-    say(b"work answers ");
-    say_device(play(d, &mut flash, stores, true));
-    say(b"\n");
-    say_flash(&flash);
-    sum(&flash)
-}
-
-// The same upgrade, cut at a store, then played to its end: the flash is to have the same sum.
-fn cut_upgrade(store: usize, through: bool, good: u64) {
-    let mut reply = [0xEE; 8];
-    let mut flash = flash();
-    lay_out(&mut flash);
-    let done = services::handle(with_stack(Mode::Idle), &mut flash, &UPGRADE, &mut reply);
-    let d = play(done.device, &mut flash, store, false);
-    let filler = filler();
-    let d = cut(d, &mut flash, &filler, through, &mut reply);
-    let next = services::work(d, &mut flash);
-    say(b", then ");
-    say_number(next.left);
-    let d = play(next.device, &mut flash, 14, false);
-    let head = d.head;
-    let mode = head.mode;
-    say_mode(mode);
-    if sum(&flash) == good {
-        say(b", same flash");
+// Whether each byte of the first is the second's, past whose end there are zeros.
+fn same(a: &[u8], b: &[u8]) -> bool {
+    let mut i = 0;
+    while i < a.len() {
+        if a[i] != basics::byte_at(b, i) {
+            return false;
+        }
+        i += 1;
     }
-    say(b": store ");
-    say_number(store);
-    if through {
-        say(b", through");
+    true
+}
+
+fn say_device(d: Device) {
+    let h = d.head();
+    let mode = h.mode;
+    match mode {
+        Mode::Stack => say(b", stack runs"),
+        Mode::Idle => say(b", FUS idle"),
+        _ => say(b", delete"),
     }
+    say_if(h.asked, b", asked once");
+    say_if(h.loaded == 1, b", key 1 loaded");
+}
+
+// The device after a call, and what changed; the flash was all zeros.
+fn say_changes(before: Device, after: Device, now: &[u8]) {
+    say_device(after);
+    say_if(!same(&before.bytes, &after.bytes), b", device changed");
+    say_if(!same(now, b""), b", flash changed");
     say(b"\n");
 }
 
-// A cut at every store.
-fn cuts(good: u64) {
-    for store in 0..15 {
-        cut_upgrade(store, false, good);
-        cut_upgrade(store, true, good);
-    }
+// Runs a row and writes its line.
+fn run(row: [u8; 6]) {
+    let d = device(row[1]);
+    let mut flash = flash();
+    let after = lend(row, d, &mut flash, &[0x5A; 4096], &mut [0xEE; 12]);
+    say_changes(d, after, &flash);
 }
 
 fn main() {
-    say(b"An image on a fresh device\n");
-    upgrade(242, 84, b"size 84, p = 242");
-    upgrade(243, 84, b"size 84, p = 243: E 04");
-    upgrade(242, 80, b"size 80: E 02, erased");
-    incident();
-    handle_refuses();
-    restart_and_work_refuse();
-    cut_refuses();
-    say(b"Jobs\n");
-    job(&DELETE, 9, b"DELETE");
-    cuts(job(&UPGRADE, 15, b"UPGRADE"));
+    for i in 0..19 {
+        run(ROWS[i]);
+    }
 }
