@@ -38,6 +38,7 @@ ROWS = [
 RECORD, LENGTH = 'RECORD_BYTES', 'LENGTH'
 MODES = {'STACK_RUNS': 'the stack runs', 'IDLE': 'FUS idle', 'UPGRADE': 'upgrade', 'DELETE': 'delete'}
 LENGTHS = ['SLOTS', 'KEY_BYTES_EACH', 'AUTH_KEY_BYTES']
+CODE_LENGTHS = {'SLOTS': 'SLOTS', 'SLOT': 'KEY_BYTES_EACH'}  # the code's name, the header's
 TABLE, HEADER, CODE = 'docs/RECORD.md', 'include/grzelotka_record.h', 'crates/device/src/places.rt'
 wrong = []
 
@@ -91,10 +92,12 @@ def main():
         expect(f'{TABLE}: bytes of {name}', count, arrays.get(name, count))
     expect(f'{HEADER}: {RECORD}', constants.get(RECORD), end)
     expect(f'{CODE}: {LENGTH}', code.get(LENGTH), end)
+    for own, name in CODE_LENGTHS.items():
+        expect(f'{CODE}: {own}', code.get(own), constants.get(name))
     for name, words in MODES.items():
         expect(f'{TABLE}: {words}', f'{constants.get(name)} {words}' in modes, True)
     expect(f'{HEADER}: others', sorted(constants.keys() - {name for _, name, _ in ROWS} - {RECORD, *LENGTHS, *MODES}), [])
-    expect(f'{CODE}: others', sorted(code.keys() - {own for _, _, own in ROWS} - {LENGTH}), [])
+    expect(f'{CODE}: others', sorted(code.keys() - {own for _, _, own in ROWS} - {LENGTH, *CODE_LENGTHS}), [])
     print('\n'.join(wrong + [f'places.py: {len(places)} places, {end} bytes, {len(wrong)} wrong']))
     sys.exit(bool(wrong))
 
