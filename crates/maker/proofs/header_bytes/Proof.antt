@@ -1,7 +1,7 @@
 use mathlib.Core.Path.{_≡_}
 use mathlib.Core.List.{append-nil}
 use lib.ListN.{length, replicate}
-use Rattle.device.proofs.Laws.{copied}
+use Rattle.maker.proofs.Copies.{copied}
 use Rattle.maker.specs.Made.{headerBytes}
 use borrow.Author.Needs.{needs}
 use Rattle.maker.proofs.header_bytes.Statement.{statement}
