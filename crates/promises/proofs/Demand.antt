@@ -167,11 +167,13 @@ module _ (k : Numbers) (kind : Sensible k) (d₀ : Device) (F₀ : List ℕ) (ac
         let g : Good S N P F₀ (onward (next P n m) (recordedIn (D .head .mode)) (D .head .made)) (stored S (next P n m) F) = rw q (work-good safe F₀ (accepted .lent-flash) i) in
         by-store (λ x. (onward x (recordedIn (D .head .mode)) (D .head .made), stored S x F)) (λ to G. Reached (progressed S top D to, G)) (arrive _ _ g))
     event-reached (cut x through R) =
-        by-call k D F Reached here (cut x through R)
-        (λ j f.
-        let q : cutShort (next P n m) through (recordedIn (D .head .mode)) ≡ cutShort (next P n m) through n = cc at-recorded in
-        let g : Good S N P F₀ (cutShort (next P n m) through (recordedIn (D .head .mode))) (spoilt S (next P n m) x F) = rw q (cut-good safe F₀ (accepted .lent-flash) x f through i) in
-        by-store (λ y. (cutShort y through (recordedIn (D .head .mode)), spoilt S y x F)) (λ to G. Reached (lost (progressed S top D to), G)) (arrive-lost _ _ g), lost-here)
+        by-call k D F Reached here (cut x through R) (
+          λ j f.
+              let q : cutShort (next P n m) through (recordedIn (D .head .mode)) ≡ cutShort (next P n m) through n = cc at-recorded in
+              let g : Good S N P F₀ (cutShort (next P n m) through (recordedIn (D .head .mode))) (spoilt S (next P n m) x F) = rw q (cut-good safe F₀ (accepted .lent-flash) x f through i) in
+              by-store (λ y. (cutShort y through (recordedIn (D .head .mode)), spoilt S y x F)) (λ to G. Reached (lost (progressed S top D to), G)) (arrive-lost _ _ g),
+          lost-here,
+        )
 
     -- the stores still to do there
     left-at : toDo k (at e n m) ≡ left P n m
