@@ -12,12 +12,8 @@ use lib.ListN.{length}
 use Rattle.basics.specs.Choice.{pick, and-right}
 use Rattle.basics.specs.Words.{byteAt}
 use Rattle.sectors.proofs.Laws.{stored-length, length-erased}
-use Rattle.packet.specs.declared.Refusal.{Refusal}
 use Rattle.packet.specs.declared.Command.{Command}
 use Rattle.packet.specs.declared.Command.the-variants.{GetState, FwUpgrade, FwDelete, UpdateAuthKey, LockAuthKey, StoreUsrKey, LoadUsrKey, StartWs, LockUsrKey, UnloadUsrKey, ActivateAntirollback}
-use Rattle.packet.specs.declared.Reading.{Reading}
-use Rattle.packet.specs.declared.Reading.the-variants.{Lawful, Refused}
-use Rattle.packet.specs.Packets.{readOf}
 use Rattle.answer.specs.declared.Checked.{Checked}
 use Rattle.answer.specs.declared.Checked.the-variants.{Good, Fails, Erases}
 use Rattle.image.specs.Images.{flashAfter, Erasable}
@@ -33,11 +29,11 @@ use Rattle.soundness.specs.Sound.{modeSound, sound}
 use Rattle.soundness.proofs.Parts.{parts}
 use Rattle.services.specs.declared.Numbers.{Numbers}
 use Rattle.device.specs.Modes.{hasJob, recordedIn}
-use Rattle.services.specs.Calls.{HandleResult, gated, lent, Sensible, handleRefused, checkedFor, keyIn, stepFor, byReading, handled}
+use Rattle.services.specs.Calls.{Sensible, checkedFor, keyIn, stepFor, handled}
 use Rattle.services.proofs.Laws.{boundary-low, erasable}
-use Rattle.promises.specs.Demand.{packet, Accepted}
+use Rattle.promises.specs.Demand.{packet, Accepted, State}
 use Rattle.promises.proofs.Under.{never}
-use Rattle.promises.proofs.Still.{either, by-verdict}
+use Rattle.promises.proofs.Still.{either, Leaves, by-call}
 use Rattle.promises.proofs.Kept.{kept}
 
 -- the checks keep the flash's length
@@ -122,28 +118,20 @@ module _ (k : Numbers) (kind : Sensible k) (d : Device) (F : List ℕ) (s : soun
       go (Upgrade p size version recorded) q m = absurd (never (sym q))
       go (Delete recorded) q m = absurd (never (sym q))
 
-  abbrev Beginning : HandleResult → Type 0
-  Beginning r = hasJob (r .device .head .mode) ≡ true → (recordedIn (r .device .head .mode) ≡ 0) × (r .device .head .made ≡ 0) × (length (r .flash) ≡ k .count * k .size)
+  abbrev Beginning : State → Type 0
+  Beginning (r, G) = hasJob (r .head .mode) ≡ true → (recordedIn (r .head .mode) ≡ 0) × (r .head .made ≡ 0) × (length G ≡ k .count * k .size)
 
-  given-back : (R : List ℕ) (q : Refusal) → Beginning (handleRefused d F R q)
-  given-back R q j = absurd (never (sym quiet ∙ j))
-
-  read-begins : (bytes R : List ℕ) (r : Reading) → Beginning (byReading r k d F bytes R)
-  read-begins bytes R (Lawful command n) j =
+  read-begins : (bytes R : List ℕ) → Leaves k d F Beginning (packet bytes R)
+  read-begins bytes R command n read j =
       let c : Checked = checkedFor k (d .head) command (d .key) F in
       let t : Step = stepFor d command bytes c in
       let q : carried t (keyIn command bytes) d .head ≡ t .head = head-of (t .effect) (keyIn command bytes) (t .head) d in
       let b = begun-decided (d .head) quiet (look (d .kinds) (d .locks) (byteAt bytes 4)) c command (byteAt bytes 4) (length (keyIn command bytes)) (ap (λ (h : Head). hasJob (h .mode)) (sym q) ∙ j) in
       (ap (λ (h : Head). recordedIn (h .mode)) q ∙ b .0, ap (λ (h : Head). h .made) q ∙ b .1 ∙ unmade, after-length (k .size) c F (erasable k (d .head) command (d .key) F kind (boundary-low (k .size) (k .top) d s) e) ∙ e)
-  read-begins bytes R (Refused q) j = given-back R q j
-
-  handled-begins : (bytes R : List ℕ) → Beginning (handled k d F bytes R)
-  unfolding handled
-  handled-begins bytes R = by-verdict Beginning (gated (sound (k .size) (k .top) d) (lent k F) (leb 8 (length R)) true) (byReading (readOf bytes) k d F bytes R) (handleRefused d F R) (read-begins bytes R (readOf bytes)) (given-back R)
 
   -- a packet after which a job is under way has accepted that job: demand 3 holds from there
   pub accepted-by : (bytes R : List ℕ) → hasJob (handled k d F bytes R .device .head .mode) ≡ true
       → Accepted k (handled k d F bytes R .device) (handled k d F bytes R .flash)
   accepted-by bytes R j =
-      let b = handled-begins bytes R j in
+      let b = by-call k d F Beginning (λ i. absurd (never (sym quiet ∙ i))) (packet bytes R) (read-begins bytes R) j in
       record { record-sound = kept k kind d s F shaped (packet bytes R); lent-flash = b .2; job = j; none-recorded = b .0; none-made = b .1 }

@@ -6,9 +6,7 @@ use mathlib.Core.Path.{_≡_, refl, sym, ap, _∙_, subst}
 use mathlib.Core.Logic.{_⊎_, inl, inr}
 use mathlib.Core.List.{List, [], _∷_, _++_}
 use native.Mathlib.Omega.{arith}
-use lib.Dec.{leb, eqb}
-use lib.ListN.{length, replicate}
-use borrow.Author.Tests.{eqb-true, leb-true, eq-eqb}
+use lib.ListN.{replicate}
 use Rattle.basics.specs.Choice.{pick}
 use Rattle.plan.specs.declared.Store.{Store}
 use Rattle.plan.specs.Safe.{Safe}
@@ -28,12 +26,11 @@ use Rattle.soundness.proofs.Keeps.{lost-sound}
 use Rattle.services.specs.declared.Numbers.{Numbers}
 use Rattle.device.specs.Modes.{hasJob, recordedIn, withRecorded}
 use Rattle.jobs.specs.Jobs.{committed, progressed, finished, nextStore, Doing}
-use Rattle.services.specs.Calls.{WorkResult, Sensible, gated, restarted, worked, cutOff}
+use Rattle.services.specs.Calls.{WorkResult, Sensible, worked}
 use Rattle.services.proofs.Doings.{doing}
-use Rattle.services.proofs.Laws.{cut-busy}
 use Rattle.promises.specs.Demand.{Event, packet, restart, work, cut, State, called, busy, ran, worksIn, NoCut, stores, toDo, Accepted, final, Safely, under, over}
 use Rattle.promises.proofs.Under.{never, job-stays, job-same, recorded-is, progressed-again, finished-progressed, finished-lost, sound-progressed}
-use Rattle.promises.proofs.Still.{packet-still, asked-so, started-so, worked-so}
+use Rattle.promises.proofs.Still.{by-call, packet-still, asked-so, started-so, worked-so}
 
 -- an ended job is no longer under way
 ended-idle : (S top : ℕ) (mode : Mode) (h : Head) → hasJob mode ≡ true → hasJob (committed S top mode h .mode) ≡ false
@@ -150,43 +147,33 @@ module _ (k : Numbers) (kind : Sensible k) (d₀ : Device) (F₀ : List ℕ) (ac
         → Q (f (nextStore S top (at e n m .head)) .0) (f (nextStore S top (at e n m .head)) .1)
     by-store f Q q = subst (λ (x : Store). Q (f x .0) (f x .1)) (sym at-next) q
 
-    work-reached : Reached (called k work (at e n m, F))
-    work-reached =
-        let D : Device = at e n m in
+    abbrev D : Device
+    D = at e n m
+
+    here : Reached (D, F)
+    here = midway o n m F i
+
+    lost-here : Reached (lost D, F)
+    unfolding at
+    lost-here = midway (origin-lost o) n 0 F (restart-good i)
+
+    event-reached : (v : Event) → Reached (called k v (D, F))
+    event-reached (packet s R) = let q = packet-still k D F at-job s R in rw (q .0, q .1) here
+    event-reached (restart R) = by-call k D F Reached here (restart R) lost-here
+    event-reached work =
+        by-call k D F Reached here work
+        (λ j.
         let q : onward (next P n m) (recordedIn (D .head .mode)) (D .head .made) ≡ onward (next P n m) n m = cc (at-recorded, at-made) in
         let g : Good S N P F₀ (onward (next P n m) (recordedIn (D .head .mode)) (D .head .made)) (stored S (next P n m) F) = rw q (work-good safe F₀ (accepted .lent-flash) i) in
-        rw (worked-so k D F at-job at-sound (i .len))
-        (by-store (λ x. (onward x (recordedIn (D .head .mode)) (D .head .made), stored S x F)) (λ to G. Reached (progressed S top D to, G)) (arrive _ _ g))
-
-    cut-reached : (x : List ℕ) (through : Bool) (R : List ℕ) → 6 ≤ length R → length x ≡ S → Reached (called k (cut x through R) (at e n m, F))
-    cut-reached x through R h f =
-        let D : Device = at e n m in
-        let q : cutShort (next P n m) through (recordedIn (D .head .mode)) ≡ cutShort (next P n m) through n = cc at-recorded in
-        let g : Good S N P F₀ (cutShort (next P n m) through (recordedIn (D .head .mode))) (spoilt S (next P n m) x F) = rw q (cut-good safe F₀ (accepted .lent-flash) x f through i) in
-        rw (cut-busy k D F x through R at-sound (i .len) h f at-job)
-        (by-store (λ y. (cutShort y through (recordedIn (D .head .mode)), spoilt S y x F)) (λ to G. Reached (lost (progressed S top D to), G)) (arrive-lost _ _ g))
-
-    restart-reached : (R : List ℕ) (t : Bool) → leb 6 (length R) ≡ t → Reached (called k (restart R) (at e n m, F))
-    unfolding restarted gated pick at
-    restart-reached R true h = rw (at-sound, h) (midway (origin-lost o) n 0 F (restart-good i))
-    restart-reached R false h = rw (at-sound, h) (midway o n m F i)
-
-    -- a cut that is refused
-    cut-still : (x : List ℕ) (through : Bool) (R : List ℕ) (t u : Bool) → leb 6 (length R) ≡ t → eqb (length x) S ≡ u → Reached (called k (cut x through R) (at e n m, F))
-    cut-still x through R true true h f = cut-reached x through R (leb-true _ _ h) (eqb-true _ _ f)
-    cut-still x through R true false h f = unfold cutOff gated pick at in rw (at-sound, eq-eqb _ _ (i .len), h, f) (midway o n m F i)
-    cut-still x through R false u h f = unfold cutOff gated pick at in rw (at-sound, eq-eqb _ _ (i .len), h) (midway o n m F i)
-
-    packet-reached : (s R : List ℕ) → Reached (called k (packet s R) (at e n m, F))
-    packet-reached s R =
-        let q = packet-still k (at e n m) F at-job s R in
-        rw (q .0, q .1) (midway o n m F i)
-
-    event-reached : (v : Event) → Reached (called k v (at e n m, F))
-    event-reached (packet s R) = packet-reached s R
-    event-reached (restart R) = restart-reached R (leb 6 (length R)) refl
-    event-reached work = work-reached
-    event-reached (cut x through R) = cut-still x through R (leb 6 (length R)) (eqb (length x) S) refl refl
+        by-store (λ x. (onward x (recordedIn (D .head .mode)) (D .head .made), stored S x F)) (λ to G. Reached (progressed S top D to, G)) (arrive _ _ g))
+    event-reached (cut x through R) =
+        by-call k D F Reached here (cut x through R) (
+          λ j f.
+              let q : cutShort (next P n m) through (recordedIn (D .head .mode)) ≡ cutShort (next P n m) through n = cc at-recorded in
+              let g : Good S N P F₀ (cutShort (next P n m) through (recordedIn (D .head .mode))) (spoilt S (next P n m) x F) = rw q (cut-good safe F₀ (accepted .lent-flash) x f through i) in
+              by-store (λ y. (cutShort y through (recordedIn (D .head .mode)), spoilt S y x F)) (λ to G. Reached (lost (progressed S top D to), G)) (arrive-lost _ _ g),
+          lost-here,
+        )
 
     -- the stores still to do there
     left-at : toDo k (at e n m) ≡ left P n m
@@ -203,7 +190,6 @@ module _ (k : Numbers) (kind : Sensible k) (d₀ : Device) (F₀ : List ℕ) (ac
     -- what work answers, and that it is one less
     answer-is : worked k (at e n m) F .left ≡ leftAt P (onward (next P n m) n m)
     answer-is =
-        let D : Device = at e n m in
         ap (λ (r : WorkResult). r .left) (worked-so k D F at-job at-sound (i .len))
         ∙ cc (at-next, at-plan, at-recorded, at-made)
 

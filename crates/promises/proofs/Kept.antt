@@ -1,6 +1,5 @@
 -- SOUNDNESS IS KEPT: fresh is sound, and every call leaves a sound record from a sound one.
 -- Assumes nothing.
-use lib.ListN.{length}
 use Prim.Native.Nat.{ℕ, _+_, _-_, _≤_, _<_}
 use mathlib.Core.Bool.{Bool, true, false, _&&_, _||_}
 use mathlib.Core.Path.{_≡_, refl}
@@ -12,9 +11,6 @@ use lib.Dec.{leb, eqb}
 use Rattle.basics.specs.Choice.{pick, and-left, and-right}
 use Rattle.basics.specs.Words.{byteAt, zeros}
 use Rattle.sectors.specs.Sectors.{sectorsFor}
-use Rattle.packet.specs.declared.Reading.{Reading}
-use Rattle.packet.specs.declared.Reading.the-variants.{Lawful, Refused}
-use Rattle.packet.specs.Packets.{readOf}
 use Rattle.answer.specs.declared.Checked.{Checked}
 use Rattle.answer.specs.declared.Checked.the-variants.{Good, Fails, Erases}
 use Rattle.image.specs.Images.{sizeLawful, versionLawful, roomFor, checkedOf}
@@ -38,13 +34,12 @@ use Rattle.soundness.proofs.Keys.{keys-lost}
 use Rattle.soundness.proofs.Keeps.{lost-sound, decided-sound}
 use Rattle.services.specs.declared.Numbers.{Numbers}
 use Rattle.jobs.specs.Jobs.{committed, progressed, finished, nextStore, Doing}
-use Rattle.services.specs.declared.Verdict.the-variants.{Taken}
-use Rattle.services.specs.Calls.{HandleResult, handleRefused, CutResult, RestartResult, WorkResult, Sensible, termsOf, checkedFor, keyIn, byReading, handled, restarted, worked, cutOff, gated, lent, restartResult, restartRefused, eventFor, working, workRefused, workedOn, workResult, cutting, cutRefused, cutIn, restarting}
+use Rattle.services.specs.Calls.{Sensible, termsOf, checkedFor, keyIn}
 use Rattle.services.proofs.Laws.{boundary-some, boundary-low}
 use Rattle.services.proofs.Doings.{doing}
-use Rattle.promises.specs.Demand.{Event, packet, restart, work, cut, called}
+use Rattle.promises.specs.Demand.{Event, packet, restart, work, cut, State, called}
 use Rattle.promises.proofs.Under.{never, sound-progressed}
-use Rattle.promises.proofs.Still.{either, by-verdict}
+use Rattle.promises.proofs.Still.{either, Leaves, by-call}
 
 -- a point of a job that a sound record can be at
 Bounded : Plan → Progress → Type 0
@@ -168,49 +163,20 @@ module _ (k : Numbers) (kind : Sensible k) (d : Device) (s : sound (k .size) (k 
   lawful-of boundary (Erases failure p) t = tt
 
   module _ (F : List ℕ) (shaped : Shaped d) where
-    abbrev Kept : HandleResult → Type 0
-    Kept r = sound S top (r .device) ≡ true
+    abbrev Kept : State → Type 0
+    Kept t = sound S top (t .0) ≡ true
 
-    read-kept : (bytes R : List ℕ) (r : Reading) → Kept (byReading r k d F bytes R)
-    read-kept bytes R (Lawful command n) =
+    taken-kept : (v : Event) → Leaves k d F Kept v
+    taken-kept (packet bytes R) =
+        λ command n e.
         decided-sound S top d (keyIn command bytes) s shaped (checkedFor k (d .head) command (d .key) F)
         (either (CheckedLawful S (d .head .boundary)) (searches (d .head .mode) command) _ _
         (lawful-of (d .head .boundary) (checkedOf S (termsOf (d .head)) (d .key) F) (checked-told S (termsOf (d .head)) (d .key) F)) tt)
         command (byteAt bytes 4)
-    read-kept bytes R (Refused r) = s
-
-    handled-kept : (bytes R : List ℕ) → Kept (handled k d F bytes R)
-    unfolding handled
-    handled-kept bytes R = by-verdict Kept (gated (sound (k .size) (k .top) d) (lent k F) (leb 8 (length R)) true) (byReading (readOf bytes) k d F bytes R) (handleRefused d F R) (read-kept bytes R (readOf bytes)) (λ r. s)
-
-    restarted-kept : (R : List ℕ) → sound S top (restarted k d R .device) ≡ true
-    unfolding restarted
-    restarted-kept R = by-verdict (λ (x : RestartResult). sound S top (x .device) ≡ true) (gated (sound S top d) true (leb 6 (length R)) true) (restartResult Taken (lost d) (eventFor d (length R))) (restartRefused d R) (lost-sound S top d s) (λ r. s)
-
-    by-job : {A : Type 0} (Q : A → Type 0) (x y : A) → (hasJob (d .head .mode) ≡ true → Q x) → Q y → Q (pick (hasJob (d .head .mode)) x y)
-    unfolding pick
-    by-job Q x y f q = go (hasJob (d .head .mode)) refl
-      where
-        go : (t : Bool) → hasJob (d .head .mode) ≡ t → Q (pick t x y)
-        go true e = f e
-        go false e = q
-
-    worked-kept : sound S top (worked k d F .device) ≡ true
-    unfolding worked
-    worked-kept =
-        let Q : WorkResult → Type 0 = λ x. sound S top (x .device) ≡ true in
-        by-verdict Q (gated (sound S top d) (lent k F) true true) (working k d F) (workRefused d F) (by-job Q (workedOn k d F) (workResult Taken d F 0) worked-sound s) (λ r. s)
-
-    cut-kept : (x : List ℕ) (through : Bool) (R : List ℕ) → sound S top (cutOff k d F x through R .device) ≡ true
-    unfolding cutOff
-    cut-kept x through R =
-        let Q : CutResult → Type 0 = λ y. sound S top (y .device) ≡ true in
-        by-verdict Q (gated (sound S top d) (lent k F) (leb 6 (length R)) (eqb (length x) S)) (cutting k d F x through R) (cutRefused d F R)
-        (by-job Q (cutIn k d F x through R) (restarting d F R) (λ j. cut-sound j through) (lost-sound S top d s)) (λ r. s)
+    taken-kept (restart R) = lost-sound S top d s
+    taken-kept work = worked-sound
+    taken-kept (cut x through R) = (λ j f. cut-sound j through, lost-sound S top d s)
 
     -- every call, with any arguments, leaves a sound record from a sound one (whose arrays have their lengths, as the code's types say)
     pub kept : (v : Event) → sound S top (called k v (d, F) .0) ≡ true
-    kept (packet bytes R) = handled-kept bytes R
-    kept (restart R) = restarted-kept R
-    kept work = worked-kept
-    kept (cut x through R) = cut-kept x through R
+    kept v = by-call k d F Kept s v (taken-kept v)

@@ -4,6 +4,8 @@ pub mod Under
 pub mod Still
 pub mod Demand
 pub mod Kept
+pub mod Flash
+pub mod Chain
 pub mod Refusals
 pub mod Begins
 pub mod Once

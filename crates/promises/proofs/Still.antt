@@ -1,11 +1,11 @@
--- What each call does to a sound device with a job.
+-- One law for all calls; and what each call does to a sound device with a job.
 -- Assumes nothing.
-use lib.Dec.{leb}
+use lib.Dec.{leb, eqb}
 use Prim.Native.Nat.{ℕ, _*_, _≤_}
 use mathlib.Core.Bool.{Bool, true, false}
 use mathlib.Core.Path.{_≡_, refl}
 use mathlib.Core.List.{List, [], _∷_}
-use borrow.Author.Tests.{le-leb, eq-eqb}
+use borrow.Author.Tests.{le-leb, eqb-true, eq-eqb}
 use lib.ListN.{length}
 use Rattle.basics.specs.Choice.{pick}
 use Rattle.packet.specs.declared.Command.{Command}
@@ -20,28 +20,68 @@ use Rattle.device.specs.declared.Mode.{Mode}
 use Rattle.device.specs.declared.Mode.the-variants.{Stack, Idle, Upgrade, Delete}
 use Rattle.commands.specs.Commands.{isGetState, jobUnderWay}
 use Rattle.decisions.specs.Decisions.{situated, decided, searches}
-use Rattle.device.specs.Whole.{carried}
+use Rattle.device.specs.Whole.{carried, lost}
 use Rattle.soundness.specs.Sound.{sound}
 use Rattle.packet.specs.declared.Refusal.{Refusal}
 use Rattle.services.specs.declared.Numbers.{Numbers}
 use Rattle.services.specs.declared.Verdict.{Verdict}
 use Rattle.services.specs.declared.Verdict.the-variants.{Taken, Refused as Turned}
 use Rattle.device.specs.Modes.{hasJob}
-use Rattle.services.specs.Calls.{HandleResult, gated, handleRefused, passed, keyIn, byReading, handled, restarted, workedOn, worked, lent}
-use Rattle.services.proofs.Gated.{all-open}
+use Rattle.services.specs.Calls.{HandleResult, RestartResult, WorkResult, CutResult, gated, passed, lent, keyIn, handleRefused, answered, byReading, handled, restartResult, restartRefused, eventFor, restarted, workedOn, working, workResult, workRefused, worked, cutIn, cutting, restarting, cutRefused, cutOff}
+use Rattle.services.proofs.Gated.{opens, all-open}
 use Rattle.services.proofs.Laws.{handled-by}
+use Rattle.promises.specs.Demand.{Event, packet, restart, work, cut, State, called}
 use Rattle.promises.proofs.Under.{fus-runs, never}
 
 -- a test that picks: what holds of both holds of the pick
-pub either : {A : Type 0} (Q : A → Type 0) (t : Bool) (x y : A) → Q x → Q y → Q (pick t x y)
+pub by-test : {A : Type 0} (Q : A → Type 0) (t : Bool) (x y : A) → (t ≡ true → Q x) → Q y → Q (pick t x y)
 unfolding pick
-either Q true x y p q = p
-either Q false x y p q = q
+by-test Q true x y p q = p refl
+by-test Q false x y p q = q
+
+pub either : {A : Type 0} (Q : A → Type 0) (t : Bool) (x y : A) → Q x → Q y → Q (pick t x y)
+either Q t x y p q = by-test Q t x y (λ e. p) q
 
 -- what holds of a taken call and of every refusal holds of the call
-pub by-verdict : {A : Type 0} (Q : A → Type 0) (v : Verdict) (x : A) (back : Refusal → A) → Q x → ((r : Refusal) → Q (back r)) → Q (passed v x back)
-by-verdict Q Taken x back p q = p
+by-verdict : {A : Type 0} (Q : A → Type 0) (v : Verdict) (x : A) (back : Refusal → A) → (v ≡ Taken → Q x) → ((r : Refusal) → Q (back r)) → Q (passed v x back)
+by-verdict Q Taken x back p q = p refl
 by-verdict Q (Turned r) x back p q = q r
+
+-- THE LAW: what holds of device and flash before a call, and of what the call leaves where it is taken, holds of what it leaves
+module _ (k : Numbers) (d : Device) (F : List ℕ) (Q : State → Type 0) where
+  abbrev job : Bool
+  job = hasJob (d .head .mode)
+
+  abbrev pub Leaves : Event → Type 0
+  Leaves (packet s R) = (command : Command) (n : ℕ) → readOf s ≡ Lawful command n → Q (answered k d F s R command .device, answered k d F s R command .flash)
+  Leaves (restart R) = Q (lost d, F)
+  Leaves work = job ≡ true → Q (workedOn k d F .device, workedOn k d F .flash)
+  Leaves (cut x through R) = (job ≡ true → length x ≡ k .size → Q (cutIn k d F x through R .device, cutIn k d F x through R .flash)) × Q (lost d, F)
+
+  module _ (same : Q (d, F)) where
+    abbrev whole : Bool
+    whole = sound (k .size) (k .top) d
+
+    by-reading : (s R : List ℕ) (r : Reading) → readOf s ≡ r → Leaves (packet s R) → Q (byReading r k d F s R .device, byReading r k d F s R .flash)
+    by-reading s R (Lawful command n) e t = t command n e
+    by-reading s R (Refused r) e t = same
+
+    pub by-call : (v : Event) → Leaves v → Q (called k v (d, F))
+    unfolding handled restarted worked cutOff
+    by-call (packet s R) t =
+        by-verdict (λ (r : HandleResult). Q (r .device, r .flash)) (gated whole (lent k F) (leb 8 (length R)) true) (byReading (readOf s) k d F s R) (handleRefused d F R)
+        (λ o. by-reading s R (readOf s) refl t) (λ r. same)
+    by-call (restart R) t =
+        by-verdict (λ (r : RestartResult). Q (r .device, F)) (gated whole true (leb 6 (length R)) true) (restartResult Taken (lost d) (eventFor d (length R))) (restartRefused d R) (λ o. t) (λ r. same)
+    by-call work t =
+        let P : WorkResult → Type 0 = λ r. Q (r .device, r .flash) in
+        by-verdict P (gated whole (lent k F) true true) (working k d F) (workRefused d F) (λ o. by-test P job (workedOn k d F) (workResult Taken d F 0) t same) (λ r. same)
+    by-call (cut x through R) t =
+        let P : CutResult → Type 0 = λ r. Q (r .device, r .flash) in
+        let fits : Bool = leb 6 (length R) in
+        let filled : Bool = eqb (length x) (k .size) in
+        by-verdict P (gated whole (lent k F) fits filled) (cutting k d F x through R) (cutRefused d F R)
+        (λ o. by-test P job (cutIn k d F x through R) (restarting d F R) (λ j. t .0 j (eqb-true _ _ (opens whole (lent k F) fits filled o .filler))) (t .1)) (λ r. same)
 
 -- the situation is that of a job, and no image is looked for
 under-way : (mode : Mode) (a b c : Step) → hasJob mode ≡ true → situated mode a b c ≡ b
@@ -50,7 +90,7 @@ under-way Idle a b c j = absurd (never j)
 under-way (Upgrade p size version recorded) a b c j = refl
 under-way (Delete recorded) a b c j = refl
 
-no-search : (mode : Mode) (command : Command) → hasJob mode ≡ true → searches mode command ≡ false
+pub no-search : (mode : Mode) (command : Command) → hasJob mode ≡ true → searches mode command ≡ false
 no-search Stack command j = refl
 no-search Idle command j = absurd (never j)
 no-search (Upgrade p size version recorded) command j = refl
@@ -61,27 +101,16 @@ module _ (k : Numbers) (d : Device) (F : List ℕ) (job : hasJob (d .head .mode)
   unfolding decided
   decided-under l checked command i n = under-way (d .head .mode) _ _ _ job
 
-  -- device and flash stay as they are
-  abbrev Still : HandleResult → Type 0
-  Still r = (r .device ≡ d) × (r .flash ≡ F)
-
   carried-still : (command : Command) (key : List ℕ) → carried (jobUnderWay (d .head) command) key d ≡ d
   unfolding jobUnderWay
   carried-still command key = either (λ (s : Step). carried s key d ≡ d) (isGetState command) _ _ refl refl
 
-  reading-still : (packet R : List ℕ) (r : Reading) → Still (byReading r k d F packet R)
-  unfolding pick
-  reading-still packet R (Lawful command n) =
-      (rw (decided-under _ _ command _ _) (carried-still command (keyIn command packet)), rw (no-search (d .head .mode) command job))
-  reading-still packet R (Refused r) = (refl, refl)
-
-  packet-so : (packet R : List ℕ) → Still (handled k d F packet R)
-  unfolding handled
-  packet-so packet R = by-verdict Still (gated (sound (k .size) (k .top) d) (lent k F) (leb 8 (length R)) true) (byReading (readOf packet) k d F packet R) (handleRefused d F R) (reading-still packet R (readOf packet)) (λ r. (refl, refl))
-
   -- a packet, lawful or not, changes neither device nor flash
-  pub packet-still : (packet R : List ℕ) → (handled k d F packet R .device ≡ d) × (handled k d F packet R .flash ≡ F)
-  packet-still packet R = packet-so packet R
+  pub packet-still : (bytes R : List ℕ) → (handled k d F bytes R .device ≡ d) × (handled k d F bytes R .flash ≡ F)
+  unfolding pick
+  packet-still bytes R =
+      by-call k d F (λ (s : State). (s .0 ≡ d) × (s .1 ≡ F)) (refl, refl) (packet bytes R)
+      (λ command n e. (rw (decided-under _ _ command _ _) (carried-still command (keyIn command bytes)), rw (no-search (d .head .mode) command job)))
 
   module _ (s : sound (k .size) (k .top) d ≡ true) (e : length F ≡ k .count * k .size) where
     -- a state request is answered 0x10 0x00

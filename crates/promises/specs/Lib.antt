@@ -3,3 +3,4 @@ pub mod Image
 pub mod Demand
 pub mod Refusals
 pub mod Reasons
+pub mod InBytes
