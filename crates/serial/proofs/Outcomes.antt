@@ -40,7 +40,7 @@ unfolding handledInPlace pick
 taken-length k l F p R e = by (soundFor k l) refl e
   where
     by : (t : Bool) → soundFor k l ≡ t
-        → pick t (handleInBytes (handled k (decode l) F p R)) (handlePlaced (Refused UnsoundRecord) l F (zeros (length R))) .verdict ≡ Taken → length l ≡ recordLength
+        → pick t (handleInBytes (handled k (decode l) F p R)) (handlePlaced (Refused UnsoundRecord) l F (zeros (length R)) 0) .verdict ≡ Taken → length l ≡ recordLength
     by true s q = record-length (k .size) (k .top) l s
     by false s q = differ UnsoundRecord (sym q)
 
@@ -50,9 +50,9 @@ unfolding readerBytes zeros
 new-reader = refl
 
 -- a whole command
-pub whole-told : (c : Command) (h : HandlePlaced) (v : Verdict) (l F R r : List ℕ) (x : Sent) → handlePlaced v l F R ≡ h → r ≡ zeros 78
-    → x ≡ sentOf (ack ∷ answerTo v c R (headIn l)) 0 → told l F r x ≡ toldBy (afterHandle c h)
-whole-told c h v l F R r x e z q = rw (q, z, ← e) (ap (λ (y : List ℕ). told l F y (sentOf (ack ∷ answerTo v c R (headIn l)) 0)) (sym new-reader))
+pub whole-told : (c : Command) (h : HandlePlaced) (v : Verdict) (l F R r : List ℕ) (n : ℕ) (x : Sent) → handlePlaced v l F R n ≡ h → r ≡ zeros 78
+    → x ≡ sentOf (ack ∷ answerTo v c R (headIn l)) n → told l F r x ≡ toldBy (afterHandle c h)
+whole-told c h v l F R r n x e z q = rw (q, z, ← e) (ap (λ (y : List ℕ). told l F y (sentOf (ack ∷ answerTo v c R (headIn l)) n)) (sym new-reader))
 
 -- the other fates
 module _ (k : Numbers) (r l F : List ℕ) (x : Sent) where

@@ -23,14 +23,10 @@ pub record Step : Type 0 where
 abbrev pub step : List ℕ → List ℕ → List ℕ → List ℕ → ℕ → Step
 step s l F message reason = record { received = s; bytes = l; flash = F; message = message; reason = reason }
 
--- the reason that handle gives beside its reply
-abbrev pub reasonOf : HandlePlaced → ℕ
-reasonOf h = 0
-
--- a whole command: its packet is handled, with a reply buffer of its own, and the reader is new
+-- a whole command: its packet is handled, with a reply buffer of its own, and the reader is new; the reason is handle's
 abbrev pub afterHandle : Command → HandlePlaced → Step
 afterHandle command h =
-    step [] (h .bytes) (h .flash) (ack ∷ answerTo (h .verdict) command (h .reply) (headIn (h .bytes))) (reasonOf h)
+    step [] (h .bytes) (h .flash) (ack ∷ answerTo (h .verdict) command (h .reply) (headIn (h .bytes))) (h .reason)
 
 abbrev pub handledOn : Numbers → Command → List ℕ → List ℕ → List ℕ → HandlePlaced
 handledOn k command s l F = handledInPlace k l F (packetIn command s) (zeros 8)

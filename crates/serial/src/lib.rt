@@ -466,9 +466,10 @@ fn whole(rec: &mut [u8], flash: &mut [u8], reader: &mut [u8], command: Command) 
 {
     let end = make_packet(reader, command);
     let mut reply = [0; 8];
-    let verdict = services::handle(rec, flash, &reader[8..end], &mut reply);
+    let told = services::handle(rec, flash, &reader[8..end], &mut reply);
+    let verdict = told.verdict;
     reply::clear(reader);
-    answer_to(rec, verdict, command, &reply, 0)
+    answer_to(rec, verdict, command, &reply, told.reason)
 }
 
 // The bytes received, the newest among them.

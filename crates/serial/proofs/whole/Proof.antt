@@ -57,7 +57,7 @@ returns c =
     let m = c .before .before .before .before .before .before .before .before .before .before .before .before .before .before .before .before .before .before .before .before .make-packet .ensures .1 in
     let e = rw m at (c .before .before .before .before .before .before .before .before .before .before .before .before .handle .ensures) in
     let n : length (c .before .before .before .before .before .before .before .before .before .before .before .before .before .before .before .before .before .before .before .before .make-packet .last .0) ≡ 78 = omega (arith, filled-length _ f) in
-    whole-told _ _ _ _ _ _ _ _ e (c .before .before .before .before .before .clear .ensures ∙ ap zeros n) (c .answer-to .ensures)
+    whole-told _ _ _ _ _ _ _ _ _ e (c .before .before .before .before .before .clear .ensures ∙ ap zeros n) (c .answer-to .ensures)
 
 pub whole-spec : {M : Type 1} → statement M
 whole-spec =
