@@ -1,0 +1,4 @@
+pub mod Line
+pub mod Responses
+pub mod Steps
+pub mod InPlace
