@@ -190,9 +190,12 @@ static void begin(uint32_t p, uint32_t size) {
 static void measure_all(void) {
     begin(50, 84), cut(1), finish(); /* the loader's own work is done */
     begin(50, 2 * SECTOR + 84);
-    do /* all the stores of a job of three sectors, in which six are cleared */
+    uint32_t left = 1;
+    for (int i = 0; i < 100 && left != 0; i++) { /* all the stores of a job of three sectors, in which six are cleared */
         measure_here((size_t)50 * SECTOR);
-    while (work() != 0);
+        left = work();
+    }
+    CHECK(left == 0);
     measure_here(0); /* no job */
     for (uint32_t size = 84; size <= SECTOR; size += size < 1200 ? 4 : 292) { /* so that arrays of many lengths come out even */
         begin(50, size), work();
