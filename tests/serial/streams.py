@@ -30,8 +30,8 @@ def data_for(rng, opcode, device):
     if opcode == 0x56:
         return bytes([64 if rng.random() < 0.9 else rng.randrange(256)]) + rng.randbytes(64)
     if opcode == 0x59:
-        count = len(device.keys) if device else 0
-        return bytes([rng.choice([0, 1, count, count + 1 & 255, rng.randrange(count + 1), rng.randrange(256)])])
+        count, locked = (len(device.keys), sorted(device.locked)) if device else (0, [])
+        return bytes([rng.choice([0, 1, count, count + 1, rng.randrange(count + 1), rng.randrange(256), *locked[:2]])])
     if opcode == 0x58:
         kind = rng.choice([1, 1, 1, 2, 3, 3, rng.randrange(256)])
         n = rng.choice(model.KEY_SIZES.get(kind, (16,))) if rng.random() < 0.8 else rng.randrange(45)
@@ -154,7 +154,8 @@ class Run:
         running = self.pair.device.stack_runs
         ways = [(walk.packet, 8), (walk.works, 20 if job else 1), (walk.cut, 3), (walk.restart, 2), (walk.upgrade, 0.3 if job or running else 1),
                 (self.upgrade, 0.3 if job or running else 4),
-                (lambda: self.pair.fresh(), 0.4), (self.many_keys, 0.05), (lambda: self.pair.handle(b'\x10\x5A\xFC\0'), 4)]
+                (lambda: self.pair.fresh(), 0.4), (self.many_keys, 0.2), (self.lock, 1),
+                (lambda: self.pair.handle(b'\x10\x5A\xFC\0'), 4)]
         self.rng.choices([way for way, _ in ways], [weight for _, weight in ways])[0]()
 
     def upgrade(self):
@@ -166,6 +167,10 @@ class Run:
         pair.set_flash(p * model.SECTOR, data[:(model.COUNT - p) * model.SECTOR])
         self.line.fresh()
         self.line.play(line.frame('write', 0x53))
+
+    def lock(self):
+        index = self.rng.randrange(len(self.pair.device.keys) + 1)
+        self.pair.handle_why(bytes([0x10, 0x5D, 0xFC, 1, index]))
 
     def many_keys(self):
         for _ in range(self.rng.choice([5, 60, 220])):
