@@ -26,10 +26,13 @@ struct calls {
     uint8_t (*work)(uint8_t *, size_t, uint8_t *, size_t, uint32_t *);
     uint8_t (*cut)(uint8_t *, size_t, uint8_t *, size_t, const uint8_t *, size_t, uint8_t, uint8_t *, size_t);
     size_t (*next_message)(const uint8_t *, size_t, const uint8_t *, size_t);
+    uint8_t (*handle_why)(uint8_t *, size_t, uint8_t *, size_t, const uint8_t *, size_t, uint8_t *, size_t, uint8_t *);
+    uint8_t (*serial)(uint8_t *, size_t, uint8_t *, size_t, uint8_t *, size_t, uint8_t, uint8_t *, size_t, uint8_t *, uint8_t *);
 };
-static const struct calls archive = {grzelotka_fresh, grzelotka_read, grzelotka_handle, grzelotka_restart,
-                                     grzelotka_work,  grzelotka_cut,  grzelotka_next_message};
-static const struct calls plain = {plain_fresh, plain_read, plain_handle, plain_restart, plain_work, plain_cut, plain_next_message};
+static const struct calls archive = {grzelotka_fresh, grzelotka_read,         grzelotka_handle,     grzelotka_restart, grzelotka_work,
+                                     grzelotka_cut,   grzelotka_next_message, grzelotka_handle_why, grzelotka_serial};
+static const struct calls plain = {plain_fresh, plain_read,         plain_handle,     plain_restart, plain_work,
+                                   plain_cut,   plain_next_message, plain_handle_why, plain_serial};
 
 /* calls that do nothing: what the cases themselves take of the stack */
 static uint8_t no_fresh(uint8_t *a, size_t b) { (void)a, (void)b; return 0; }
@@ -45,9 +48,18 @@ static uint8_t no_cut(uint8_t *a, size_t b, uint8_t *c, size_t d, const uint8_t 
 }
 static uint8_t no_restart(uint8_t *a, size_t b, uint8_t *c, size_t d) { (void)a, (void)b, (void)c, (void)d; return 0; }
 static size_t no_next(const uint8_t *a, size_t b, const uint8_t *c, size_t d) { (void)a, (void)b, (void)c, (void)d; return 0; }
-static const struct calls nothing = {no_fresh, no_read, no_handle, no_restart, no_work, no_cut, no_next};
+static uint8_t no_why(uint8_t *a, size_t b, uint8_t *c, size_t d, const uint8_t *e, size_t f, uint8_t *g, size_t h, uint8_t *i) {
+    (void)a, (void)b, (void)c, (void)d, (void)e, (void)f, (void)g, (void)h, *i = 0;
+    return 0;
+}
+static uint8_t no_serial(uint8_t *a, size_t b, uint8_t *c, size_t d, uint8_t *e, size_t f, uint8_t g, uint8_t *h, size_t i, uint8_t *j, uint8_t *k) {
+    (void)a, (void)b, (void)c, (void)d, (void)e, (void)f, (void)g, (void)h, (void)i, *j = *k = 0;
+    return 0;
+}
+static const struct calls nothing = {no_fresh, no_read, no_handle, no_restart, no_work, no_cut, no_next, no_why, no_serial};
 
 static uint8_t record[RECORD] __attribute__((aligned(64))), reply[64], filler[SECTOR], kept_record[RECORD];
+static uint8_t reader[78], begun[78], end_reader[78];
 static uint8_t flash[FLASH] __attribute__((aligned(4096))), kept_flash[FLASH] __attribute__((aligned(4096)));
 static uint8_t end_record[RECORD], end_reply[64], end_flash[FLASH];
 static volatile unsigned answers;
@@ -87,6 +99,12 @@ static void send_key(const struct calls *on, uint8_t type, uint8_t n) {
     answers += on->handle(record, RECORD, flash, FLASH, packet, n + 6u, reply, sizeof reply);
 }
 
+static void send_byte(const struct calls *on, uint8_t byte) {
+    uint8_t sent, reason;
+    answers += on->serial(record, RECORD, flash, FLASH, reader, sizeof reader, byte, reply, sizeof reply, &sent, &reason);
+    answers += sent + reason;
+}
+
 static void work_all(const struct calls *on) {
     uint32_t left;
     do
@@ -104,6 +122,14 @@ static void with_keys(void) {
     for (int i = 0; i < 50; i++)
         send_key(&plain, 1, 16), send_key(&plain, 3, 44);
     send_index(&plain, 0x5D, 9), send_index(&plain, 0x59, 2);
+}
+/* an authentication key's bytes are to come */
+static void with_begun_command(void) {
+    static const uint8_t start[11] = {0x51, 0xAE, 0, 0x56, 0xFF, 0xA9, 0, 0, 0, 0, 65};
+    with_keys();
+    for (int i = 0; i < 11; i++)
+        send_byte(&plain, start[i]);
+    memcpy(begun, reader, sizeof reader);
 }
 static void with_stack(void) {
     with_keys();
@@ -147,6 +173,23 @@ static void load(const struct calls *on) { send_index(on, 0x59, 100); }
 static void lock(const struct calls *on) { send_index(on, 0x5D, 9); }
 static void load_unload(const struct calls *on) { send_index(on, 0x59, 2), send_index(on, 0x5E, 2); }
 static void store_full(const struct calls *on) { send_key(on, 1, 16); }
+static void store_full_why(const struct calls *on) {
+    static const uint8_t packet[22] = {0x10, 0x58, 0xFC, 18, 1, 16};
+    uint8_t reason;
+    answers += on->handle_why(record, RECORD, flash, FLASH, packet, 22, reply, sizeof reply, &reason);
+    answers += reason;
+}
+/* the 65 bytes of data one after the other, and then again */
+static void byte_inside(const struct calls *on) {
+    if (reader[0] == 76)
+        memcpy(reader, begun, sizeof reader);
+    send_byte(on, 0x5A);
+}
+static void line_get_state(const struct calls *on) {
+    static const uint8_t bytes[9] = {0x50, 0xAF, 0, 0x54, 0xFF, 0xAB, 0, 0, 0};
+    for (int i = 0; i < 9; i++)
+        send_byte(on, bytes[i]);
+}
 static void store_hundred(const struct calls *on) {
     on->fresh(record, RECORD);
     for (int i = 0; i < 50; i++)
@@ -191,6 +234,7 @@ static const struct one cases[] = {
     {"handle LOCK", with_keys, lock, true},
     {"handle LOAD, UNLOAD", with_keys, load_unload, true},
     {"handle STORE, full", with_keys, store_full, true},
+    {"handle_why STORE, full", with_keys, store_full_why, true},
     {"fresh, handle 100 STOREs", empty, store_hundred, true},
     {"handle UPDATE_AUTH_KEY", with_keys, update_auth, true},
     {"handle LOCK_AUTH_KEY, no key", with_keys, lock_auth, true},
@@ -202,6 +246,8 @@ static const struct one cases[] = {
     {"cut, no job", with_keys, cut, true},
     {"cut, a sector store", with_job, cut, true},
     {"next message", with_keys, next_message, true},
+    {"a byte inside a command", with_begun_command, byte_inside, true},
+    {"a whole GET_STATE on the line", with_keys, line_get_state, true},
     {"a 121-sector upgrade, 606 stores", with_image, whole_upgrade, false},
     {"a 121-sector delete, 243 stores", with_stack, whole_delete, false},
 };
@@ -212,7 +258,7 @@ static void put_back(void) {
 }
 
 static void begin(const struct one *c) {
-    memset(reply, 0, sizeof reply);
+    memset(reply, 0, sizeof reply), memset(reader, 0, sizeof reader);
     c->begin();
     memcpy(kept_record, record, RECORD), memcpy(kept_flash, flash, FLASH);
 }
@@ -241,10 +287,12 @@ static bool agree(const struct one *c) {
     c->turn(&archive);
     unsigned said = answers;
     memcpy(end_record, record, RECORD), memcpy(end_flash, flash, FLASH), memcpy(end_reply, reply, sizeof reply);
+    memcpy(end_reader, reader, sizeof reader);
     begin(c);
     answers = 0;
     c->turn(&plain);
-    return said == answers && !memcmp(end_record, record, RECORD) && !memcmp(end_flash, flash, FLASH) && !memcmp(end_reply, reply, sizeof reply);
+    return said == answers && !memcmp(end_record, record, RECORD) && !memcmp(end_flash, flash, FLASH) && !memcmp(end_reply, reply, sizeof reply) &&
+           !memcmp(end_reader, reader, sizeof reader);
 }
 
 static void time_case(const struct one *c) {

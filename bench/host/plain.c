@@ -385,8 +385,10 @@ uint8_t plain_read(const uint8_t *packet, size_t packet_len, uint16_t *opcode, u
     return number;
 }
 
-uint8_t plain_handle_why(uint8_t *record, size_t record_len, uint8_t *flash, size_t flash_len, const uint8_t *packet, size_t packet_len,
-                         uint8_t *reply, size_t reply_len, uint8_t *reason) {
+/* in both calls whole, so that neither pays for the other */
+static inline __attribute__((always_inline)) uint8_t handle_packet(uint8_t *record, size_t record_len, uint8_t *flash, size_t flash_len,
+                                                                   const uint8_t *packet, size_t packet_len, uint8_t *reply, size_t reply_len,
+                                                                   uint8_t *reason) {
     uint16_t opcode;
     *reason = GRZELOTKA_REASON_NONE;
     if (!sound(record, record_len))
@@ -419,7 +421,12 @@ uint8_t plain_handle_why(uint8_t *record, size_t record_len, uint8_t *flash, siz
 uint8_t plain_handle(uint8_t *record, size_t record_len, uint8_t *flash, size_t flash_len, const uint8_t *packet, size_t packet_len,
                      uint8_t *reply, size_t reply_len) {
     uint8_t reason;
-    return plain_handle_why(record, record_len, flash, flash_len, packet, packet_len, reply, reply_len, &reason);
+    return handle_packet(record, record_len, flash, flash_len, packet, packet_len, reply, reply_len, &reason);
+}
+
+uint8_t plain_handle_why(uint8_t *record, size_t record_len, uint8_t *flash, size_t flash_len, const uint8_t *packet, size_t packet_len,
+                         uint8_t *reply, size_t reply_len, uint8_t *reason) {
+    return handle_packet(record, record_len, flash, flash_len, packet, packet_len, reply, reply_len, reason);
 }
 
 uint8_t plain_restart(uint8_t *record, size_t record_len, uint8_t *event, size_t event_len) {
@@ -629,14 +636,28 @@ static bool phases_good(const uint8_t *s, unsigned n) {
            (n < ADDRESS || phase_good(s, ADDRESS)) && (n < DATA_SIZE || phase_good(s, DATA_SIZE));
 }
 
+/* all zeros from byte `from` on; by many bytes at once from the end, which is faster than byte for byte */
+static bool zeros_from(const uint8_t *reader, unsigned from) {
+    uint64_t behind = 0, words[4];
+    unsigned i = READER;
+    for (; i >= from + 32; i -= 32) {
+        memcpy(words, reader + i - 32, 32);
+        behind |= words[0] | words[1] | words[2] | words[3];
+    }
+    for (; i >= from + 8; i -= 8) {
+        memcpy(words, reader + i - 8, 8);
+        behind |= words[0];
+    }
+    while (i > from)
+        behind |= reader[--i];
+    return behind == 0;
+}
+
 static bool reader_lawful(const uint8_t *reader, size_t length) {
     if (length != READER || reader[0] > MOST_RECEIVED)
         return false;
     unsigned n = reader[0];
-    uint8_t behind = 0;
-    for (unsigned i = 1 + n; i < READER; i++)
-        behind |= reader[i];
-    return !behind && phases_good(reader + 1, n) && (n < PAIR || n < whole_length(reader + 1, n));
+    return zeros_from(reader, 1 + n) && phases_good(reader + 1, n) && (n < PAIR || n < whole_length(reader + 1, n));
 }
 
 /* the size bytes, the data and their XOR make 0 */

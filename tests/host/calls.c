@@ -555,8 +555,8 @@ static void reason_cases(void) {
     CHECK(restart() == 1 && why_store(2, 32) == 0 && why_store(2, 16) == GRZELOTKA_REASON_SECOND_MASTER);
     CHECK(why_store(2, 17) == GRZELOTKA_REASON_BAD_SIZE && why_index(0x59, 1) == 0 && why_index(0x5E, 2) == GRZELOTKA_REASON_NOT_LOADED);
     CHECK(why_index(0x5E, 1) == 0 && why_index(0x5E, 1) == GRZELOTKA_REASON_NOT_LOADED);
-    while (record[GRZELOTKA_KEYS_STORED] < 100)
-        CHECK(why_store(1, 16) == 0);
+    for (int i = 2; i <= 100; i++)
+        CHECK(why_store(1, 16) == 0 && reply[7] == i);
     CHECK(why_store(1, 16) == GRZELOTKA_REASON_STORE_FULL && why_store(3, 28) == GRZELOTKA_REASON_STORE_FULL);
     CHECK(why_store(1, 28) == GRZELOTKA_REASON_BAD_SIZE && why_store(2, 16) == GRZELOTKA_REASON_SECOND_MASTER && why_index(0x59, 100) == 0);
     CHECK(why_index(0x59, 101) == GRZELOTKA_REASON_NOT_STORED && why_index(0x5D, 101) == GRZELOTKA_REASON_NOT_STORED);

@@ -62,6 +62,24 @@ static uint32_t serial(const struct request *q) {
     return log - (file + LOG_AT);
 }
 
+static struct answer play_line(const struct request *q) {
+    struct answer a = {0, 0, 0};
+    switch (q->call) {
+    case SERIAL_BYTES:
+        a.answer = grzelotka_serial_bytes();
+        break;
+    case SERIAL_FRESH:
+        a.answer = grzelotka_serial_fresh(at(READER_AT, q->filler), q->filler);
+        break;
+    case SERIAL:
+        a.first = serial(q);
+        break;
+    default:
+        verdicts();
+    }
+    return a;
+}
+
 static struct answer play(const struct request *q) {
     uint8_t *record = at(RECORD_AT, q->record), *flash = at(FLASH_AT, q->flash), *packet = at(PACKET_AT, q->packet);
     uint8_t *reply = at(REPLY_AT, q->reply), *filler = at(FILLER_AT, q->filler);
@@ -96,20 +114,11 @@ static struct answer play(const struct request *q) {
         a.answer = grzelotka_handle_why(record, q->record, flash, q->flash, packet, q->packet, reply, q->reply, &reason);
         a.first = reason;
         break;
-    case SERIAL_BYTES:
-        a.answer = grzelotka_serial_bytes();
-        break;
-    case SERIAL_FRESH:
-        a.answer = grzelotka_serial_fresh(at(READER_AT, q->filler), q->filler);
-        break;
-    case SERIAL:
-        a.first = serial(q);
-        break;
     case RECORD_BYTES:
         a.answer = grzelotka_record_bytes();
         break;
     default:
-        verdicts();
+        return play_line(q);
     }
     return a;
 }

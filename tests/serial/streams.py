@@ -3,11 +3,11 @@
 
     tests/serial/streams.py [--seed N] [--steps N] DRIVER..
 
-DRIVER.. runs tests/host/driver.c. A stream is a command that is clean, has one bit flipped, one byte lost, doubled or added, is two commands
-run together, or is rubbish; N counts the streams. Between them are restarts, works, cuts, images and plain packets, so that devices are in every
-situation, and now and then a record that is no device's, buffers of a wrong length and readers that no line has. For each byte the answer, what
-is sent, the reason, the out buffer to its end, the reader and the record are compared, and after each stream the flash. A mismatch prints the
-stream and the seed, and the status is 1.
+DRIVER.. runs tests/host/driver.c. A stream is a command that is clean, has one bit flipped, one byte lost, doubled or added, has a wrong opcode or
+size with good checks, is two commands run together, or is rubbish; N counts the streams. Between them, and now and then inside one, are
+restarts, works, cuts, images and plain packets, so that devices are in every situation; there are also records that are no device's, buffers of a
+wrong length and readers that no line has. For each byte the answer, what is sent, the reason, the out buffer to its end, the reader and the
+record are compared, and after each stream the flash. A mismatch prints the stream and the seed, and the status is 1.
 """
 import collections
 import os
@@ -30,8 +30,8 @@ def data_for(rng, opcode, device):
     if opcode == 0x56:
         return bytes([64 if rng.random() < 0.9 else rng.randrange(256)]) + rng.randbytes(64)
     if opcode == 0x59:
-        count = len(device.keys) if device else 0
-        return bytes([rng.choice([0, 1, count, count + 1 & 255, rng.randrange(count + 1), rng.randrange(256)])])
+        count, locked = (len(device.keys), sorted(device.locked)) if device else (0, [])
+        return bytes([rng.choice([0, 1, count, count + 1, rng.randrange(count + 1), rng.randrange(256), *locked[:2]])])
     if opcode == 0x58:
         kind = rng.choice([1, 1, 1, 2, 3, 3, rng.randrange(256)])
         n = rng.choice(model.KEY_SIZES.get(kind, (16,))) if rng.random() < 0.8 else rng.randrange(45)
@@ -152,9 +152,25 @@ class Run:
         """Something else happens to the device, by the calls that the line does not know."""
         walk, job = self.walk, self.pair.device.job is not None
         running = self.pair.device.stack_runs
-        ways = [(walk.packet, 8), (walk.works, 6 if job else 1), (walk.cut, 3), (walk.restart, 2), (walk.upgrade, 0.3 if job or running else 3),
-                (lambda: self.pair.fresh(), 0.4), (self.many_keys, 0.05), (lambda: self.pair.handle(b'\x10\x5A\xFC\0'), 4)]
+        ways = [(walk.packet, 8), (walk.works, 20 if job else 1), (walk.cut, 3), (walk.restart, 2), (walk.upgrade, 0.3 if job or running else 1),
+                (self.upgrade, 0.3 if job or running else 4),
+                (lambda: self.pair.fresh(), 0.4), (self.many_keys, 0.2), (self.lock, 1),
+                (lambda: self.pair.handle(b'\x10\x5A\xFC\0'), 4)]
         self.rng.choices([way for way, _ in ways], [weight for _, weight in ways])[0]()
+
+    def upgrade(self):
+        """An image is loaded, and asked for on the line."""
+        pair, rng = self.pair, self.rng
+        p, data = fuzz.image(rng, pair.device)
+        if rng.random() < 0.3:
+            pair.set_flash(0, b'\xFF' * (pair.device.boundary * model.SECTOR))
+        pair.set_flash(p * model.SECTOR, data[:(model.COUNT - p) * model.SECTOR])
+        self.line.fresh()
+        self.line.play(line.frame('write', 0x53))
+
+    def lock(self):
+        index = self.rng.randrange(len(self.pair.device.keys) + 1)
+        self.pair.handle_why(bytes([0x10, 0x5D, 0xFC, 1, index]))
 
     def many_keys(self):
         for _ in range(self.rng.choice([5, 60, 220])):
@@ -198,6 +214,11 @@ class Run:
         kind, stream = stream_for(rng, device)
         tally[kind] += 1
         tally['stack runs' if device.stack_runs else 'job' if device.job else 'pending error' if device.error else 'idle'] += 1
+        if rng.random() < 0.05:  # something happens in the middle of it
+            half = rng.randrange(len(stream))
+            self.line.play(stream[:half])
+            self.between()
+            stream = stream[half:]
         self.line.play(stream, room=rng.choice([10, 10, 10, 10, 11, 12]) if rng.random() < 0.99 else rng.randrange(10))
 
 

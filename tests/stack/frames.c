@@ -3,13 +3,13 @@
      frames WORK COPY CUT       tests them against these numbers
    Three things must hold, and a local array above 64 bytes breaks one of them:
    - no more than 64 bytes in a row of what is copied, of the filler or of the record stand on the stack afterwards: the bytes tell their places;
-   - no byte stands there more than 64 times in a row, as in an array that is filled and not used;
+   - no byte stands there more than 96 times in a row, as in an array that is filled and not used (64 zeros of a piece may have zeros beside them);
    - the bytes of the stack that are written to, the call's own left out, are at least the number given and at most 64 more. An array that is added
      adds all its bytes; where the code has come to take less, the number is to be lowered, or it would not be seen. (It adds less if it lies where
      the copied piece lay before: then only the source tells, arrays.py.) */
 #include "host.h"
 
-enum { STACK = 16384, ARRAY = 64, TURNS = 3, IMAGE = 3 * SECTOR };
+enum { STACK = 16384, ARRAY = 64, SAME = 96, TURNS = 3, IMAGE = 3 * SECTOR };
 /* of each buffer and turn its own */
 #define IN_SOURCE (0xC3A55A17u * (turn + 1))
 #define IN_FILLER (0x5AC3B791u * (turn + 1))
@@ -126,7 +126,7 @@ static size_t marked(const bool *marks) {
 /* the longest array seen after the call */
 static size_t array_seen(uint32_t turn, uint8_t paint) {
     static uint8_t source[IMAGE], keys[RECORD];
-    size_t from = touched(paint), longest = longest_same(from, paint);
+    size_t from = touched(paint), same = longest_same(from, paint), longest = same > SAME ? same : 0;
     tell_places(source, IMAGE, IN_SOURCE), tell_places(keys, RECORD - GRZELOTKA_KEY_BYTES, IN_RECORD);
     most(&longest, longest_copy(source, IMAGE, IN_SOURCE, from));
     most(&longest, longest_copy(filler, SECTOR, IN_FILLER, from));
@@ -190,9 +190,12 @@ static void begin(uint32_t p, uint32_t size) {
 static void measure_all(void) {
     begin(50, 84), cut(1), finish(); /* the loader's own work is done */
     begin(50, 2 * SECTOR + 84);
-    do /* all the stores of a job of three sectors, in which six are cleared */
+    uint32_t left = 1;
+    for (int i = 0; i < 100 && left != 0; i++) { /* all the stores of a job of three sectors, in which six are cleared */
         measure_here((size_t)50 * SECTOR);
-    while (work() != 0);
+        left = work();
+    }
+    CHECK(left == 0);
     measure_here(0); /* no job */
     for (uint32_t size = 84; size <= SECTOR; size += size < 1200 ? 4 : 292) { /* so that arrays of many lengths come out even */
         begin(50, size), work();
