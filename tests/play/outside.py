@@ -300,7 +300,7 @@ def scripted(program, name, pairs):
         for line, wanted in pairs:
             said = run.ask(line.encode())
             if said != wanted:
-                raise Wrong(f'line {run.lines}, {line[:80]!r}: {said[:80]!r}, where {wanted[:80]!r} is to be')
+                raise Wrong(f'line {run.lines}, {line[:80]!r}: {said[:150]!r}, where {wanted[:150]!r} is to be')
         lines = run.lines
         run.close()
     except Wrong as wrong:
