@@ -29,8 +29,7 @@ use Rattle.soundness.specs.Sound.{sound}
 use Rattle.soundness.proofs.Parts.{parts}
 use Rattle.services.specs.declared.Numbers.{Numbers}
 use Rattle.services.proofs.Gated.{all-open}
-use Rattle.services.specs.Calls.{cutting, first, Sensible, termsOf, checkedFor, keyIn, byReading, handled, restarting, cutIn, cutOff}
-use Rattle.device.specs.Modes.{hasJob}
+use Rattle.services.specs.Calls.{first, Sensible, termsOf, checkedFor, keyIn, byReading, handled}
 
 -- the first kind's numbers
 pub first-sensible : Sensible first
@@ -86,18 +85,3 @@ pub handled-by : (k : Numbers) (d : Device) (F packet R : List ℕ) → sound (k
     → handled k d F packet R ≡ byReading (readOf packet) k d F packet R
 unfolding handled
 handled-by k d F packet R s e h = rw (all-open _ _ _ true s (eq-eqb _ _ e) (le-leb _ _ h) refl)
-
--- on a sound record and fitting buffers a cut goes by whether there is a job
-module _ (k : Numbers) (d : Device) (F x : List ℕ) (through : Bool) (R : List ℕ) (s : sound (k .size) (k .top) d ≡ true) (e : length F ≡ k .count * k .size)
-    (h : 6 ≤ length R) (f : length x ≡ k .size) where
-  cut-taken : cutOff k d F x through R ≡ cutting k d F x through R
-  unfolding cutOff
-  cut-taken = rw (all-open _ _ _ _ s (eq-eqb _ _ e) (le-leb _ _ h) (eq-eqb _ _ f))
-
-  pub cut-busy : hasJob (d .head .mode) ≡ true → cutOff k d F x through R ≡ cutIn k d F x through R
-  unfolding pick
-  cut-busy j = cut-taken ∙ rw j
-
-  pub cut-idle : hasJob (d .head .mode) ≡ false → cutOff k d F x through R ≡ restarting d F R
-  unfolding pick
-  cut-idle j = cut-taken ∙ rw j
