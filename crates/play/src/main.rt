@@ -26,6 +26,49 @@ fn packet(rec: &mut [u8], flash: &mut [u8], line: &[u8], hex: usize) {
     );
 }
 
+// One byte on the serial line: what the device sends for it is written, and the reason beside it is answered.
+fn line_byte(rec: &mut [u8], flash: &mut [u8], reader: &mut [u8], byte: u8) -> u8 {
+    let mut out = [0u8; 10];
+    let mut sent = 0;
+    let mut reason = 0;
+    serial::byte(
+        rec,
+        flash,
+        reader,
+        byte,
+        &mut out,
+        &mut sent,
+        &mut reason,
+    );
+    if sent <= 10 {
+        let n = sent as usize;
+        say::hex(&out[..n]);
+    }
+    reason
+}
+
+// Bytes on the serial line, one after another: all that the device sends, and why a key was turned down last.
+fn feed(rec: &mut [u8], flash: &mut [u8], reader: &mut [u8], bytes: &[u8]) {
+    let mut why = 0;
+    let mut i = 0;
+    say::text(b"sent ");
+    while i < bytes.len() {
+        let reason = line_byte(rec, flash, reader, bytes[i]);
+        if reason != 0 {
+            why = reason;
+        }
+        i += 1;
+    }
+    say::reason(why);
+    say::text(b"\n");
+}
+
+fn serial(rec: &mut [u8], flash: &mut [u8], reader: &mut [u8], line: &[u8], hex: usize) {
+    let mut bytes = [0u8; 260];
+    let n = script::packet_bytes(line, hex, &mut bytes);
+    feed(rec, flash, reader, &bytes[..n]);
+}
+
 fn restart(rec: &mut [u8]) {
     let mut event = [0u8; 6];
     let verdict = services::restart(rec, &mut event);
@@ -52,10 +95,11 @@ fn work(rec: &mut [u8], flash: &mut [u8], stores: usize) {
     say::made(made, left as usize);
 }
 
-// The device and the flash as at the start.
-fn fresh(rec: &mut [u8], flash: &mut [u8]) {
+// The device, the flash and the line as at the start.
+fn fresh(rec: &mut [u8], flash: &mut [u8], reader: &mut [u8]) {
     services::fresh(rec);
     sectors::fill(flash, 0xFF);
+    serial::fresh(reader);
     say::ok();
 }
 
@@ -70,6 +114,8 @@ fn bad(fault: Fault) {
         Fault::NoOrder => say::text(b"bad order: unknown\n"),
         Fault::PacketLong => say::text(b"bad packet: over 260 bytes\n"),
         Fault::NoPairs => say::text(b"bad packet: no hex pairs\n"),
+        Fault::SerialLong => say::text(b"bad serial: over 260 bytes\n"),
+        Fault::NoSerialPairs => say::text(b"bad serial: no hex pairs\n"),
         Fault::NoCount => say::text(b"bad count: 1 to 4294967295\n"),
         Fault::NoSector => say::text(b"bad sector: 0 to 243\n"),
         Fault::NoByte => say::text(b"bad byte: two hex digits\n"),
@@ -86,10 +132,11 @@ fn load(flash: &mut [u8], sector: usize, line: &[u8], file: usize) {
 }
 
 // Answers a line.
-fn answer(rec: &mut [u8], flash: &mut [u8], line: &[u8]) {
+fn answer(rec: &mut [u8], flash: &mut [u8], reader: &mut [u8], line: &[u8]) {
     match script::read(line) {
         Order::Nothing => say::ok(),
         Order::Packet { hex } => packet(rec, flash, line, hex),
+        Order::Serial { hex } => serial(rec, flash, reader, line, hex),
         Order::Restart => restart(rec),
         Order::Work { stores } => work(rec, flash, stores),
         Order::Cut { filler, through } => cut(rec, flash, filler, through),
@@ -100,27 +147,39 @@ fn answer(rec: &mut [u8], flash: &mut [u8], line: &[u8]) {
         Order::State => state::show(rec),
         Order::Erase { sector } => fill(flash, sector, 0xFF),
         Order::Fill { sector, byte } => fill(flash, sector, byte),
-        Order::Fresh => fresh(rec, flash),
+        Order::Fresh => fresh(rec, flash, reader),
         Order::Bad(fault) => bad(fault),
     }
 }
 
 // Answers what was read: a last line with no newline counts if it is not empty.
-fn answer_read(rec: &mut [u8], flash: &mut [u8], line: &[u8], ended: bool) {
+fn answer_read(
+    rec: &mut [u8],
+    flash: &mut [u8],
+    reader: &mut [u8],
+    line: &[u8],
+    ended: bool,
+) {
     if ended | (0 < line.len()) {
-        answer(rec, flash, line);
+        answer(rec, flash, reader, line);
     }
 }
 
 // Plays the script. The count of turns is there because every loop must end: no script has so many lines.
-fn play(rec: &mut [u8], flash: &mut [u8], text: &mut [u8], buffer: &mut [u8]) {
+fn play(
+    rec: &mut [u8],
+    flash: &mut [u8],
+    reader: &mut [u8],
+    text: &mut [u8],
+    buffer: &mut [u8],
+) {
     let mut input = Input { at: 0, end: 0 };
     let mut more = true;
     let mut turns = u64::MAX;
     while 0 < turns && more {
         let line = input::read_line(text, buffer, input);
         let n = line.length;
-        answer_read(rec, flash, &text[..n], line.ended);
+        answer_read(rec, flash, reader, &text[..n], line.ended);
         more = line.ended;
         input = line.input;
         turns -= 1;
@@ -139,8 +198,9 @@ fn erased_flash() -> [u8; bench::FLASH] {
 fn start(rec: &mut [u8], flash: &mut [u8]) {
     let mut text = input::room();
     let mut buffer = io::buffer();
+    let mut reader = [0u8; serial::LENGTH];
     services::fresh(rec);
-    play(rec, flash, &mut text, &mut buffer);
+    play(rec, flash, &mut reader, &mut text, &mut buffer);
 }
 
 fn main() {

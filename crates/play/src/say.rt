@@ -70,8 +70,8 @@ pub fn ok() {
 }
 
 // Why a key was turned down, in words.
-fn why(reason: u8) {
-    match reason {
+pub fn reason(number: u8) {
+    match number {
         1 => text(b" bad type"),
         2 => text(b" bad size"),
         3 => text(b" second master"),
@@ -85,12 +85,12 @@ fn why(reason: u8) {
 }
 
 // The line of a call: a word, the bytes that it wrote and why a key was turned down, or the number of its refusal.
-pub fn outcome(verdict: Verdict, word: &[u8], message: &[u8], reason: u8) {
+pub fn outcome(verdict: Verdict, word: &[u8], message: &[u8], why: u8) {
     match verdict {
         Verdict::Taken => {
             text(word);
             hex(message);
-            why(reason);
+            reason(why);
             text(b"\n");
         }
         Verdict::Refused(refusal) => refused(refusal),

@@ -9,8 +9,9 @@ use Rattle.basics.specs.Words.{byteAt}
 use Rattle.line.specs.Hex.{arePairs}
 use Rattle.device.specs.Kind.{sectorCount}
 use Rattle.script.specs.declared.Order.{Order}
-use Rattle.script.specs.declared.Order.the-variants.{Nothing, Packet, Restart, Work, Cut, Load, Dump, Map, Record, State, Erase, Fill, Fresh, Bad}
-use Rattle.script.specs.declared.Fault.the-variants.{LineLong, NoOrder, PacketLong, NoPairs, NoCount, NoSector, NoByte, NoOutcome, NoFile}
+use Rattle.script.specs.declared.Order.the-variants.{Nothing, Packet, Serial, Restart, Work, Cut, Load, Dump, Map, Record, State, Erase, Fill, Fresh, Bad}
+use Rattle.script.specs.declared.Fault.{Fault}
+use Rattle.script.specs.declared.Fault.the-variants.{LineLong, NoOrder, PacketLong, NoPairs, SerialLong, NoSerialPairs, NoCount, NoSector, NoByte, NoOutcome, NoFile}
 use Rattle.script.specs.declared.Decimal.{Decimal}
 use Rattle.script.specs.declared.Decimal.the-variants.{Number, NoNumber}
 use Rattle.script.specs.declared.Pair.{Pair}
@@ -20,6 +21,9 @@ use Rattle.script.specs.Words.{same, firstOf, restAt, restOf, decimalIn,
 -- the words, in bytes
 abbrev pub packetWord : List ℕ
 packetWord = 112 ∷ 97 ∷ 99 ∷ 107 ∷ 101 ∷ 116 ∷ []
+
+abbrev pub serialWord : List ℕ
+serialWord = 115 ∷ 101 ∷ 114 ∷ 105 ∷ 97 ∷ 108 ∷ []
 
 abbrev pub restartWord : List ℕ
 restartWord = 114 ∷ 101 ∷ 115 ∷ 116 ∷ 97 ∷ 114 ∷ 116 ∷ []
@@ -60,9 +64,17 @@ throughWord = 116 ∷ 104 ∷ 114 ∷ 111 ∷ 117 ∷ 103 ∷ 104 ∷ []
 abbrev pub notWord : List ℕ
 notWord = 110 ∷ 111 ∷ 116 ∷ []
 
--- packet HEX: up to 260 bytes as hex pairs; where they stand
-unfoldable pub packetIn : List ℕ → ℕ → Order
-packetIn rest at = pick (ltb 520 (length rest)) (Bad PacketLong) (pick (arePairs rest) (Packet at) (Bad NoPairs))
+-- up to 260 bytes as hex pairs
+unfoldable pub pairsIn : List ℕ → Order → Fault → Fault → Order
+pairsIn rest order long unpaired = pick (ltb 520 (length rest)) (Bad long) (pick (arePairs rest) order (Bad unpaired))
+
+-- packet HEX: a packet; where its bytes stand
+abbrev pub packetIn : List ℕ → ℕ → Order
+packetIn rest at = pairsIn rest (Packet at) PacketLong NoPairs
+
+-- serial HEX: bytes on the serial line
+abbrev pub serialIn : List ℕ → ℕ → Order
+serialIn rest at = pairsIn rest (Serial at) SerialLong NoSerialPairs
 
 -- work N: 1 to 4294967295 stores
 abbrev pub workOf : Decimal → Order
@@ -125,8 +137,9 @@ flashOrder word rest at =
 unfoldable pub wordOrder : List ℕ → List ℕ → ℕ → Order
 wordOrder word rest at =
     pick (same word packetWord) (packetIn rest at)
+    (pick (same word serialWord) (serialIn rest at)
     (pick (same word workWord) (workIn rest)
-    (pick (same word cutWord) (cutIn rest) (flashOrder word rest at)))
+    (pick (same word cutWord) (cutIn rest) (flashOrder word rest at))))
 
 -- of one word, the whole line, that shows something
 unfoldable pub showOrder : List ℕ → Order

@@ -6,7 +6,7 @@ ghost use lib.ListN.{length, take, drop};
 ghost use Rattle.bytes.specs.Bytes.{indexOf};
 ghost use Rattle.line.specs.Answer.{Counted};
 ghost use Rattle.script.specs.Words.{same, firstOf, restAt, restOf, decimalIn, pairIn, packetBytes};
-ghost use Rattle.script.specs.Orders.{packetIn, workIn, cutIn, loadIn, dumpIn, eraseIn, fillIn, flashOrder, wordOrder, showOrder, loneOrder, orderOf};
+ghost use Rattle.script.specs.Orders.{pairsIn, packetIn, serialIn, workIn, cutIn, loadIn, dumpIn, eraseIn, fillIn, flashOrder, wordOrder, showOrder, loneOrder, orderOf};
 
 // The most bytes of a line that is read.
 pub const LONGEST: usize = 4400;
@@ -17,6 +17,8 @@ pub enum Order {
     Nothing,
     // a packet, whose hex digits stand from this offset to the line's end
     Packet { hex: usize },
+    // bytes on the serial line, likewise
+    Serial { hex: usize },
     Restart,
     Work { stores: usize },
     Cut { filler: u8, through: bool },
@@ -42,6 +44,9 @@ pub enum Fault {
     PacketLong,
     // no hex pairs
     NoPairs,
+    // the same of bytes on the serial line
+    SerialLong,
+    NoSerialPairs,
     // no number from 1 to 4294967295
     NoCount,
     // no number from 0 to 243
@@ -172,18 +177,42 @@ pub fn packet_bytes(text: &[u8], hex: usize, out: &mut [u8; 260]) -> usize
     digits.len() / 2
 }
 
+// An order with bytes as hex pairs, or what is wrong of them.
+fn pairs(words: &[u8], order: Order, long: Fault, unpaired: Fault) -> Order
+    ensures { λ r. ⌜ r ≡ pairsIn (now (words .entry)) order long unpaired ⌝ }
+{
+    if line::LONGEST < words.len() {
+        return Order::Bad(long);
+    }
+    let mut bytes = [0u8; line::LONGEST / 2];
+    if line::decode(words, &mut bytes) {
+        return order;
+    }
+    Order::Bad(unpaired)
+}
+
 // What follows `packet`, and begins at an offset of the line.
 fn packet(words: &[u8], at: usize) -> Order
     ensures { λ r. ⌜ r ≡ packetIn (now (words .entry)) at ⌝ }
 {
-    if line::LONGEST < words.len() {
-        return Order::Bad(Fault::PacketLong);
-    }
-    let mut bytes = [0u8; line::LONGEST / 2];
-    if line::decode(words, &mut bytes) {
-        return Order::Packet { hex: at };
-    }
-    Order::Bad(Fault::NoPairs)
+    pairs(
+        words,
+        Order::Packet { hex: at },
+        Fault::PacketLong,
+        Fault::NoPairs,
+    )
+}
+
+// What follows `serial`.
+fn serial(words: &[u8], at: usize) -> Order
+    ensures { λ r. ⌜ r ≡ serialIn (now (words .entry)) at ⌝ }
+{
+    pairs(
+        words,
+        Order::Serial { hex: at },
+        Fault::SerialLong,
+        Fault::NoSerialPairs,
+    )
 }
 
 fn work(words: &[u8]) -> Order
@@ -301,6 +330,9 @@ fn worded(word: &[u8], words: &[u8], at: usize) -> Order
 {
     if is(word, b"packet") {
         return packet(words, at);
+    }
+    if is(word, b"serial") {
+        return serial(words, at);
     }
     if is(word, b"work") {
         return work(words);

@@ -1,6 +1,6 @@
-use borrow.Author.Needs.{needs}
-use Rattle.basics.specs.Choice.{cases}
 use Rattle.script.specs.Orders.{wordOrder}
+use Rattle.basics.specs.Choice.{cases}
+use borrow.Author.Needs.{needs}
 use Rattle.script.proofs.worded.Statement.{statement}
 use Rattle.script.proofs.worded.Tie as tie
 
@@ -23,8 +23,8 @@ slice-aggregate-is-2 c = search needs
 is-requires-2 : tie.Need-is-requires-2
 is-requires-2 c κs = search needs
 
-work-requires : tie.Need-work-requires
-work-requires c κs = search needs
+serial-requires : tie.Need-serial-requires
+serial-requires c κs = search needs
 
 returns-2 : tie.Need-returns-2
 unfolding wordOrder
@@ -36,19 +36,32 @@ slice-aggregate-is-3 c = search needs
 is-requires-3 : tie.Need-is-requires-3
 is-requires-3 c κs = search needs
 
-cut-requires : tie.Need-cut-requires
-cut-requires c κs = search needs
+work-requires : tie.Need-work-requires
+work-requires c κs = search needs
 
 returns-3 : tie.Need-returns-3
 unfolding wordOrder
 returns-3 c = search cases
 
-on-flash-requires : tie.Need-on-flash-requires
-on-flash-requires c κs = search needs
+slice-aggregate-is-4 : tie.Need-slice-aggregate-is-4
+slice-aggregate-is-4 c = search needs
+
+is-requires-4 : tie.Need-is-requires-4
+is-requires-4 c κs = search needs
+
+cut-requires : tie.Need-cut-requires
+cut-requires c κs = search needs
 
 returns-4 : tie.Need-returns-4
 unfolding wordOrder
 returns-4 c = search cases
+
+on-flash-requires : tie.Need-on-flash-requires
+on-flash-requires c κs = search needs
+
+returns-5 : tie.Need-returns-5
+unfolding wordOrder
+returns-5 c = search cases
 
 pub worded-spec : {M : Type 1} → statement M
 worded-spec =
@@ -60,11 +73,15 @@ worded-spec =
     returns
     slice-aggregate-is-2
     is-requires-2
-    work-requires
+    serial-requires
     returns-2
     slice-aggregate-is-3
     is-requires-3
-    cut-requires
+    work-requires
     returns-3
+    slice-aggregate-is-4
+    is-requires-4
+    cut-requires
+    returns-4
     on-flash-requires
-    returns-4)
+    returns-5)
