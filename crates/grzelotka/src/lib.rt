@@ -1,5 +1,6 @@
 // The calls as the C test host has them (include/grzelotka.h): each is the record's call with its answer as a number.
 use packet::Reading;
+use serial::Heard;
 use services::Verdict;
 ghost use mathlib.Core.Path.{_≡_};
 ghost use mathlib.Core.Bool.{not};
@@ -10,7 +11,8 @@ ghost use Rattle.reply.specs.Message.{nextMessage};
 ghost use Rattle.services.specs.Calls.{first};
 ghost use Rattle.device.specs.Layout.{recordLength};
 ghost use Rattle.services.specs.InPlace.{freshInPlace, handledInPlace, restartedInPlace, workedInPlace, cutInPlace};
-ghost use Rattle.grzelotka.specs.Numbers.{numberFor, readNumber, readOpcode, readLength};
+ghost use Rattle.serial.specs.InPlace.{readerLength, freshInPlace as serialFresh, steppedInPlace};
+ghost use Rattle.grzelotka.specs.Numbers.{numberFor, readNumber, readOpcode, readLength, heardNumber};
 
 // 0 for a call that is taken, else the refusal's number.
 fn number_for(verdict: Verdict) -> u8
@@ -140,4 +142,51 @@ pub extern "C" fn grzelotka_next_message<'a>(event: &'a [u8], response: &'a [u8]
 {
     let part = reply::next_message(event, response);
     part.len()
+}
+
+// The line's answers as numbers.
+fn heard_number(heard: Heard) -> u8
+    ensures { λ r. ⌜ r ≡ heardNumber heard ⌝ }
+{
+    match heard {
+        Heard::Taken => 0,
+        Heard::OutShort => 3,
+        Heard::NoReader => 19,
+    }
+}
+
+#[no_mangle]
+pub extern "C" fn grzelotka_serial_bytes() -> usize
+    ensures { λ r. ⌜ r ≡ readerLength ⌝ }
+{
+    serial::LENGTH
+}
+
+#[no_mangle]
+pub extern "C" fn grzelotka_serial_fresh(reader: &mut [u8]) -> u8
+    ensures { λ r. ⌜ r ≡ heardNumber (serialFresh (now (reader .entry)) .answer) ⌝ }
+    ensures { λ _. ⌜ now (reader .exit) ≡ serialFresh (now (reader .entry)) .reader ⌝ }
+{
+    heard_number(serial::fresh(reader))
+}
+
+#[no_mangle]
+pub extern "C" fn grzelotka_serial(
+    rec: &mut [u8],
+    flash: &mut [u8],
+    reader: &mut [u8],
+    byte: u8,
+    out: &mut [u8],
+    sent: &mut u8,
+    reason: &mut u8,
+) -> u8
+    ensures { λ r. ⌜ r ≡ heardNumber (steppedInPlace first (now (rec .entry)) (now (flash .entry)) (now (reader .entry)) byte (now (out .entry)) .answer) ⌝ }
+    ensures { λ _. ⌜ now (rec .exit) ≡ steppedInPlace first (now (rec .entry)) (now (flash .entry)) (now (reader .entry)) byte (now (out .entry)) .bytes ⌝ }
+    ensures { λ _. ⌜ now (flash .exit) ≡ steppedInPlace first (now (rec .entry)) (now (flash .entry)) (now (reader .entry)) byte (now (out .entry)) .flash ⌝ }
+    ensures { λ _. ⌜ now (reader .exit) ≡ steppedInPlace first (now (rec .entry)) (now (flash .entry)) (now (reader .entry)) byte (now (out .entry)) .reader ⌝ }
+    ensures { λ _. ⌜ now (out .exit) ≡ steppedInPlace first (now (rec .entry)) (now (flash .entry)) (now (reader .entry)) byte (now (out .entry)) .out ⌝ }
+    ensures { λ _. ⌜ now (sent .exit) ≡ steppedInPlace first (now (rec .entry)) (now (flash .entry)) (now (reader .entry)) byte (now (out .entry)) .sent ⌝ }
+    ensures { λ _. ⌜ now (reason .exit) ≡ steppedInPlace first (now (rec .entry)) (now (flash .entry)) (now (reader .entry)) byte (now (out .entry)) .reason ⌝ }
+{
+    heard_number(serial::byte(rec, flash, reader, byte, out, sent, reason))
 }
