@@ -26,6 +26,13 @@ fn packet(rec: &mut [u8], flash: &mut [u8], line: &[u8], hex: usize) {
     );
 }
 
+// What the device sends for a byte.
+fn say_sent(out: &[u8], sent: usize) {
+    if sent <= out.len() {
+        say::hex(&out[..sent]);
+    }
+}
+
 // One byte on the serial line: what the device sends for it is written, and the reason beside it is answered.
 fn line_byte(rec: &mut [u8], flash: &mut [u8], reader: &mut [u8], byte: u8) -> u8 {
     let mut out = [0u8; 10];
@@ -40,10 +47,7 @@ fn line_byte(rec: &mut [u8], flash: &mut [u8], reader: &mut [u8], byte: u8) -> u
         &mut sent,
         &mut reason,
     );
-    if sent <= 10 {
-        let n = sent as usize;
-        say::hex(&out[..n]);
-    }
+    say_sent(&out, sent as usize);
     reason
 }
 

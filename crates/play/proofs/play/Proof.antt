@@ -7,10 +7,10 @@ use Rattle.play.proofs.play.Statement.{statement}
 use Rattle.play.proofs.play.Tie as tie
 
 abbrev Inv-loop : tie.InvT-loop
-Inv-loop rec₀ flash₀ text₀ buffer₀ input₀ more₀ turns₀ rec flash text buffer input more turns = (length rec ≡ length rec₀) × (length flash ≡ length flash₀) × (length text ≡ length text₀) × (length buffer ≡ length buffer₀)
+Inv-loop rec₀ flash₀ reader₀ text₀ buffer₀ input₀ more₀ turns₀ rec flash reader text buffer input more turns = (length rec ≡ length rec₀) × (length flash ≡ length flash₀) × (length reader ≡ length reader₀) × (length text ≡ length text₀) × (length buffer ≡ length buffer₀)
 
 abbrev μ-loop : tie.MeasureT-loop
-μ-loop rec₀ flash₀ text₀ buffer₀ input₀ more₀ turns₀ rec flash text buffer input more turns = turns
+μ-loop rec₀ flash₀ reader₀ text₀ buffer₀ input₀ more₀ turns₀ rec flash reader text buffer input more turns = turns
 
 loop-holds : tie.Need-loop-holds Inv-loop μ-loop
 loop-holds c = search needs
@@ -63,6 +63,12 @@ same-length-7 c = search needs
 same-length-8 : tie.Need-same-length-8 Inv-loop μ-loop
 same-length-8 c = search needs
 
+same-length-9 : tie.Need-same-length-9 Inv-loop μ-loop
+same-length-9 c = search needs
+
+same-length-10 : tie.Need-same-length-10 Inv-loop μ-loop
+same-length-10 c = search needs
+
 returns-2 : tie.Need-returns-2 Inv-loop μ-loop
 returns-2 c = search needs
 
@@ -84,9 +90,11 @@ play-spec =
     same-length-2
     same-length-3
     same-length-4
-    returns
     same-length-5
+    returns
     same-length-6
     same-length-7
     same-length-8
+    same-length-9
+    same-length-10
     returns-2)
