@@ -13,6 +13,7 @@ import sys
 import tempfile
 
 import fuzz
+import line as factory
 import model
 import scripts
 
@@ -35,6 +36,7 @@ class Expected:
 
     def fresh(self):
         self.device, self.flash = model.Device(), bytearray(b'\xFF' * model.FLASH)
+        self.received = b''
         return 'ok'
 
     def answer(self, line):
@@ -47,7 +49,7 @@ class Expected:
         if line in alone:
             return alone[line]()
         word, _, rest = line.partition(b' ')
-        several = {b'packet': self.packet, b'work': self.work, b'cut': self.cut, b'load': self.load, b'dump': self.dump,
+        several = {b'packet': self.packet, b'serial': self.serial, b'work': self.work, b'cut': self.cut, b'load': self.load, b'dump': self.dump,
                    b'erase': self.erase, b'fill': self.fill}
         return several[word](rest) if word in several else 'bad order: unknown'
 
@@ -59,6 +61,17 @@ class Expected:
         reply = bytearray(8)
         refusal, reason = model.handle_why(self.device, self.flash, bytes.fromhex(digits.decode()), reply)
         return f'refused {refusal}' if refusal else 'reply ' + reply[:reply[2] + 3].hex().upper() + REASONS[reason]
+
+    def serial(self, digits):
+        if len(digits) > 520:
+            return 'bad serial: over 260 bytes'
+        if len(digits) % 2 or not re.fullmatch(rb'[0-9A-Fa-f]*', digits):
+            return 'bad serial: no hex pairs'
+        out, why = b'', 0
+        for byte in bytes.fromhex(digits.decode()):
+            self.received, sent, reason = factory.take(self.received, self.device, self.flash, byte)
+            out, why = out + sent, reason or why
+        return 'sent ' + out.hex().upper() + REASONS[why]
 
     def restart(self):
         event = bytearray(6)
@@ -207,9 +220,10 @@ BAD = [b' ', b'  ', b'restart ', b' restart', b'Restart', b'restart now', b'rest
        b'packet 1052FC00\r', b'packet' + b' ' * 2, b'packet ' + b'00' * 261, b'packet ' + b'0' * 521, b'cut', b'cut ', b'cut 5', b'cut 5A', b'cut 5A ', b'cut 5A maybe', b'cut 5A not ', b'cut 5AA not',
        b'cut G0 not', b'cut  5A not', b'load', b'load ', b'load 240', b'load 240 ', b'load 244 image', b'load -1 image', b'load x image', b'load 0 no such file', b'load 0 .', b'load 0 a\0b',
        b'load 0 ' + b'n' * 4090, b'dump', b'dump ', b'dump 244', b'dump 1 2', b'dump 99999999999999999999', b'dump 0x1', b'erase', b'erase 244', b'erase 1 FF', b'fill', b'fill 1', b'fill 1 ', b'fill 1 F',
-       b'fill 1 FFF', b'fill 244 00', b'map ', b'record x', b'state 1', b'fresh device', b'help', b'\0', b'\xFF' * 9, b'\xC5\xBC', b'#' * 4401, b'x' * 4401, b'packet ' + b'0' * 100000]
+       b'fill 1 FFF', b'fill 244 00', b'map ', b'serial 1', b'serial 50 AF', b'serial 5G', b'serial ' + b'00' * 261, b'record x', b'state 1', b'fresh device', b'help', b'\0', b'\xFF' * 9, b'\xC5\xBC', b'#' * 4401, b'x' * 4401, b'packet ' + b'0' * 100000]
 GOOD = [b'', b'#', b'# packet', b'packet', b'packet ', b'packet 1052fc00', b'packet 1052Fc00', b'work', b'work 1', b'work 0001', b'work 4294967295', b'cut 5a not', b'cut FF through', b'map', b'record',
-        b'state', b'dump 0', b'dump 000243', b'fill 7 0a', b'dump 7', b'erase 7', b'dump 7', b'#' * 4400, b'packet ' + b'00' * 260, b'restart', b'fresh', b'state']
+        b'state', b'dump 0', b'dump 000243', b'fill 7 0a', b'dump 7', b'erase 7', b'dump 7', b'#' * 4400, b'packet ' + b'00' * 260, b'serial', b'serial ', b'serial 50af', b'serial 0054FFAB000000', b'serial 7F51', b'serial ' + b'51' * 260,
+        b'serial 51AE0059FFA600000000010100', b'restart', b'serial 51', b'fresh', b'serial 50AF0054FFAB000000', b'state']
 
 
 def words(run):
@@ -246,11 +260,22 @@ def file_of(folder, data):
     return name.encode()
 
 
+def on_line(rng, opcode, payload):
+    """A command as the serial line carries it, with a byte damaged or some of it missing now and then; GET_STATE for one that the line has not."""
+    pair, number = next((key for key, (own, _) in factory.COMMANDS.items() if own == opcode), ('read', 0x0054))
+    data = bytearray(factory.frame(pair, number, payload))
+    if rng.random() < 0.2:
+        data[rng.randrange(len(data))] ^= 1 << rng.randrange(8)
+    return data[:rng.choice([len(data)] * 5 + [rng.randrange(len(data))])].hex().encode()
+
+
 def random_line(rng, run, folder):
     device, way = run.expected.device, rng.random()
     if way < 0.35:
         opcode = rng.choices(fuzz.OPCODES, [fuzz.OFTEN[o] for o in fuzz.OPCODES])[0]
         packet = fuzz.lawful(rng, opcode, device)
+        if rng.random() < 0.25:
+            return b'serial ' + on_line(rng, opcode, packet[4:])
         if rng.random() < 0.2:
             packet = fuzz.broken(rng, packet)[:260]
         return b'packet ' + packet.hex().encode()
