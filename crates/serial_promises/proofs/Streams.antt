@@ -16,10 +16,10 @@ use Rattle.services.specs.Calls.{handled}
 use Rattle.services.specs.InPlace.{HandlePlaced, handlePlaced, handleInBytes, soundFor, handledInPlace}
 use Rattle.serial.specs.declared.Fate.{Fate}
 use Rattle.serial.specs.declared.Fate.the-variants.{More, Right, Whole, Wrong}
-use Rattle.serial.specs.Line.{ack, nack, judged, packetIn}
-use Rattle.serial.specs.Steps.{Step, step, byFate, afterHandle, handledOn, stepped}
+use Rattle.serial.specs.Line.{nack, judged, packetIn}
+use Rattle.serial.specs.Steps.{step, byFate, stepped}
 use Rattle.serial.specs.InPlace.{Placed, steppedInPlace}
-use Rattle.serial_promises.specs.Streams.{Line, onward, next, afterAll, NoneWhole, end, more, Effect, nothing, event}
+use Rattle.serial_promises.specs.Streams.{Line, onward, next, afterAll, NoneWhole, more, Effect, nothing, event}
 
 -- (a) AFTER A NACK the reader is exactly as new, and record and flash are as before
 fate-nacked : (f : Fate) (k : Numbers) (s l F : List ℕ) → byFate f k s l F .message ≡ nack ∷ [] → byFate f k s l F ≡ step [] l F (nack ∷ []) 0
