@@ -44,12 +44,12 @@ ends-whole s (b ∷ []) c (last e) = e
 ends-whole s (b ∷ bs) c (on e r) = rw append-assoc at (ends-whole (s ++ (b ∷ [])) bs c r)
 
 -- a test that a fate goes by
-kept-right : (t : Bool) → kept (pick t Right Wrong) ≡ true → t ≡ true
+pub kept-right : (t : Bool) → kept (pick t Right Wrong) ≡ true → t ≡ true
 unfolding pick
 kept-right true e = refl
 kept-right false e = e
 
-kept-more : (t : Bool) → kept (pick t More Wrong) ≡ true → t ≡ true
+pub kept-more : (t : Bool) → kept (pick t More Wrong) ≡ true → t ≡ true
 unfolding pick
 kept-more true e = refl
 kept-more false e = e
@@ -58,7 +58,7 @@ never-kept : (o : Opcode) → kept (wholeIf o) ≡ true → ⊥
 never-kept (Listed c) e = let z : _≡_ {A = ℕ} 0 1 = cc in omega arith
 never-kept Unlisted e = let z : _≡_ {A = ℕ} 0 1 = cc in omega arith
 
-kept-address : (t w : Bool) (o : Opcode) → kept (pick t (pick w Right (wholeIf o)) Wrong) ≡ true → (t ≡ true) × (w ≡ true)
+pub kept-address : (t w : Bool) (o : Opcode) → kept (pick t (pick w Right (wholeIf o)) Wrong) ≡ true → (t ≡ true) × (w ≡ true)
 unfolding pick
 kept-address true true o e = (refl, refl)
 kept-address true false o e = absurd (never-kept o e)
@@ -68,7 +68,7 @@ whole-listed : (o : Opcode) (c : Command) → wholeIf o ≡ Whole c → o ≡ Li
 whole-listed (Listed d) c e = ap Listed (let q : d ≡ c = cc in q)
 whole-listed Unlisted c e = wrong-whole c e
 
-true-not-false : {P : Type 0} (t : Bool) → t ≡ true → t ≡ false → P
+pub true-not-false : {P : Type 0} (t : Bool) → t ≡ true → t ≡ false → P
 true-not-false t p q = absurd (let z : _≡_ {A = ℕ} 0 1 = cc in omega arith)
 
 -- the opcode of a read, and of a write with its size
@@ -200,7 +200,7 @@ ended s c e =
     (λ t d. by-pick _ _ _ _ d (λ u q. record { enough = ltb-false _ _ t; checked = u; command = q }) (λ _ p. wrong-whole c p))))
 
 -- a string with all its data does not go on
-full : (s : List ℕ) → 12 + sizeIn s ≤ length s → kept (judged s) ≡ true → ⊥
+pub full : (s : List ℕ) → 12 + sizeIn s ≤ length s → kept (judged s) ≡ true → ⊥
 unfolding dataFate pick
 full s h e = by (dataChecked s) (rw (late s (omega arith), le-ltb (length s) 11 (omega arith), ne-eqb (length s) 11 (λ q. omega arith), le-ltb (length s) (12 + sizeIn s) h) at e)
   where
