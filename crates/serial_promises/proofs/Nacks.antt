@@ -1,7 +1,7 @@
 -- (a) AFTER A NACK IN PLACE OF THE RESPONSE too the reader is as new, and record and flash are as before; and what the line tells of the
 -- device after a command is what GET_STATE would next reply. Assumes nothing.
 use Prim.Native.Nat.{ℕ}
-use mathlib.Core.Path.{_≡_, refl, ap, sym, _∙_}
+use mathlib.Core.Path.{_≡_, refl, ap, _∙_}
 use mathlib.Core.Bool.{Bool, true, false}
 use mathlib.Core.List.{List, [], _∷_, _++_}
 use native.Mathlib.Omega.{arith}

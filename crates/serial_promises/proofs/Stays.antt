@@ -1,12 +1,12 @@
 -- A READER STAYS A READER: from a new one on, whatever bytes come, no call is refused for its reader. Assumes nothing.
 use Prim.Native.Nat.{ℕ, _+_, _-_, _<_, _≤_}
-use mathlib.Core.Path.{_≡_, refl, ap, sym, _∙_}
+use mathlib.Core.Path.{_≡_, refl, _∙_}
 use mathlib.Core.Bool.{Bool, true, false, _&&_, _||_}
 use mathlib.Core.List.{List, [], _∷_, _++_}
 use native.Mathlib.Omega.{arith}
-use lib.Dec.{leb, eqb, ltb}
+use lib.Dec.{ltb}
 use lib.ListN.{length, length-append, List·getD-append}
-use borrow.Author.Tests.{ltb-true, ltb-false, lt-ltb, le-ltb}
+use borrow.Author.Tests.{ltb-true, ltb-false}
 use Rattle.basics.specs.Choice.{pick, and-left, and-right, both-true}
 use Rattle.basics.specs.Words.{byteAt}
 use Rattle.services.specs.declared.Numbers.{Numbers}
