@@ -1,18 +1,26 @@
 -- A READER STAYS A READER: from a new one on, whatever bytes come, no call is refused for its reader. Assumes nothing.
-use Prim.Native.Nat.{ℕ, _+_, _-_, _<_, _≤_}
+use Prim.Native.Nat.{ℕ, zero, suc, _+_, _-_, _<_, _≤_}
 use mathlib.Core.Path.{_≡_, refl, _∙_}
 use mathlib.Core.Bool.{Bool, true, false, _&&_, _||_}
 use mathlib.Core.List.{List, [], _∷_, _++_}
 use native.Mathlib.Omega.{arith}
-use lib.Dec.{ltb}
-use lib.ListN.{length, length-append, List·getD-append}
-use borrow.Author.Tests.{ltb-true, ltb-false}
+use lib.Dec.{leb, ltb}
+use lib.ListN.{length, drop, length-append, List·getD-append}
+use borrow.Author.Tests.{ltb-true, ltb-false, eqb-true, leb-true}
 use Rattle.basics.specs.Choice.{pick, and-left, and-right, both-true}
-use Rattle.basics.specs.Words.{byteAt}
+use Rattle.basics.specs.Words.{byteAt, zeros}
+use Rattle.packet.specs.declared.Command.the-variants.{GetState, FwUpgrade, FwDelete, UpdateAuthKey, LockAuthKey, StoreUsrKey, LoadUsrKey, StartWs, LockUsrKey, UnloadUsrKey, ActivateAntirollback}
+use Rattle.packet.specs.declared.Opcode.{Opcode}
+use Rattle.packet.specs.declared.Opcode.the-variants.{Listed, Unlisted}
+use native.Mathlib.Numerals.{add-one}
+use lib.Seq.{drop-append-seam}
+use Rattle.serial.specs.declared.Heard.the-variants.{OutShort, NoReader}
+use Rattle.serial.specs.InPlace.{readerBytes, receivedIn, allZero, isReader, placedBy, refusedBy, steppedInPlace}
+use Rattle.serial.proofs.Readers.{reader, reader-test, reader-length, received-back}
 use Rattle.services.specs.declared.Numbers.{Numbers}
 use Rattle.serial.specs.declared.Fate.{Fate}
 use Rattle.serial.specs.declared.Fate.the-variants.{More, Right, Whole, Wrong}
-use Rattle.serial.specs.Line.{pairRight, opcodeRight, addressRight, addressChecked, isWrite, sizeRight, sizeIn, commandIn, passedBy, isOpen, judged, openingFate, addressFate, dataFate}
+use Rattle.serial.specs.Line.{pairRight, opcodeRight, addressRight, addressChecked, isWrite, sizeRight, sizeAllowed, sizeIn, commandIn, passedBy, isOpen, judged, openingFate, addressFate, dataFate}
 use Rattle.serial.specs.Steps.{byFate, stepped}
 use Rattle.serial_promises.specs.WellFormed.{kept}
 use Rattle.serial_promises.proofs.Only.{full, kept-right, kept-more, kept-address}
@@ -123,3 +131,59 @@ fate-open (Whole c) k s l F h = new-open
 
 pub stays-open : (k : Numbers) (s l F : List ℕ) (b : ℕ) → isOpen s ≡ true → isOpen (stepped k s l F b .received) ≡ true
 stays-open k s l F b e = fate-open (judged (s ++ (b ∷ []))) k (s ++ (b ∷ [])) l F (λ h. goes s b (opens s e) h)
+
+-- the same of a reader's bytes
+size-few : (o : Opcode) (n : ℕ) → sizeAllowed o n ≡ true → n ≤ 65
+size-few (Listed GetState) n e = absurd (let z : _≡_ {A = ℕ} 0 1 = cc in omega arith)
+size-few (Listed FwUpgrade) n e = omega (arith, eqb-true n 0 e)
+size-few (Listed FwDelete) n e = omega (arith, eqb-true n 0 e)
+size-few (Listed UpdateAuthKey) n e = omega (arith, eqb-true n 65 e)
+size-few (Listed LockAuthKey) n e = omega (arith, eqb-true n 0 e)
+size-few (Listed StoreUsrKey) n e = omega (arith, leb-true n 46 (and-right (leb 2 n) (leb n 46) e))
+size-few (Listed LoadUsrKey) n e = omega (arith, eqb-true n 1 e)
+size-few (Listed StartWs) n e = omega (arith, eqb-true n 0 e)
+size-few (Listed LockUsrKey) n e = absurd (let z : _≡_ {A = ℕ} 0 1 = cc in omega arith)
+size-few (Listed UnloadUsrKey) n e = absurd (let z : _≡_ {A = ℕ} 0 1 = cc in omega arith)
+size-few (Listed ActivateAntirollback) n e = absurd (let z : _≡_ {A = ℕ} 0 1 = cc in omega arith)
+size-few Unlisted n e = absurd (let z : _≡_ {A = ℕ} 0 1 = cc in omega arith)
+
+open-few : (s : List ℕ) → Open s → length s ≤ 76
+open-few s o = by (ltb (length s) 11) refl
+  where
+    by : (x : Bool) → ltb (length s) 11 ≡ x → length s ≤ 76
+    by true q = omega (arith, ltb-true (length s) 11 q)
+    by false q =
+        omega (arith, ltb-true (length s) (12 + sizeIn s) (o .few), size-few (commandIn s) (sizeIn s) (or-false (ltb (length s) 11) (sizeRight s) (o .size) q))
+
+all-zeros : (n : ℕ) → allZero (zeros n) ≡ true
+unfolding allZero zeros
+all-zeros zero = refl
+all-zeros (suc n) = all-zeros n
+
+rest-zero : (s : List ℕ) → allZero (drop (length s + 1) (readerBytes s)) ≡ true
+unfolding readerBytes
+rest-zero s = rw (add-one, drop-append-seam s (zeros (77 - length s))) (all-zeros (77 - length s))
+
+count-is : (s : List ℕ) → byteAt (readerBytes s) 0 ≡ length s
+unfolding readerBytes
+count-is s = refl
+
+pub reader-of : (s : List ℕ) → isOpen s ≡ true → isReader (readerBytes s) ≡ true
+reader-of s e =
+    let few : length s ≤ 76 = open-few s (opens s e) in
+    let most : length s ≤ 77 = omega arith in
+    reader-test (readerBytes s) (reader-length s most) (rw count-is few)
+    ∙ rw (received-back s most, count-is s) (both-true _ _ e (rest-zero s))
+
+pub stays-reader : (k : Numbers) (l F r : List ℕ) (b : ℕ) (O : List ℕ) → isReader r ≡ true → isReader (steppedInPlace k l F r b O .reader) ≡ true
+unfolding steppedInPlace pick
+stays-reader k l F r b O e = by (leb 10 (length O)) (isReader r) e
+  where
+    by : (x y : Bool) → y ≡ true
+        → isReader (pick x (pick y (placedBy (stepped k (receivedIn r) l F b) O) (refusedBy NoReader l F r O)) (refusedBy OutShort l F r O) .reader) ≡ true
+    by true true q = reader-of _ (stays-open k (receivedIn r) l F b (reader r e .going))
+    by true false q = e
+    by false y q = e
+
+pub new-reads : isReader (readerBytes []) ≡ true
+new-reads = reader-of [] new-open
