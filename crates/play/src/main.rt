@@ -38,15 +38,7 @@ fn line_byte(rec: &mut [u8], flash: &mut [u8], reader: &mut [u8], byte: u8) -> u
     let mut out = [0u8; 10];
     let mut sent = 0;
     let mut reason = 0;
-    serial::byte(
-        rec,
-        flash,
-        reader,
-        byte,
-        &mut out,
-        &mut sent,
-        &mut reason,
-    );
+    serial::byte(rec, flash, reader, byte, &mut out, &mut sent, &mut reason);
     say_sent(&out, sent as usize);
     reason
 }
@@ -157,26 +149,14 @@ fn answer(rec: &mut [u8], flash: &mut [u8], reader: &mut [u8], line: &[u8]) {
 }
 
 // Answers what was read: a last line with no newline counts if it is not empty.
-fn answer_read(
-    rec: &mut [u8],
-    flash: &mut [u8],
-    reader: &mut [u8],
-    line: &[u8],
-    ended: bool,
-) {
+fn answer_read(rec: &mut [u8], flash: &mut [u8], reader: &mut [u8], line: &[u8], ended: bool) {
     if ended | (0 < line.len()) {
         answer(rec, flash, reader, line);
     }
 }
 
 // Plays the script. The count of turns is there because every loop must end: no script has so many lines.
-fn play(
-    rec: &mut [u8],
-    flash: &mut [u8],
-    reader: &mut [u8],
-    text: &mut [u8],
-    buffer: &mut [u8],
-) {
+fn play(rec: &mut [u8], flash: &mut [u8], reader: &mut [u8], text: &mut [u8], buffer: &mut [u8]) {
     let mut input = Input { at: 0, end: 0 };
     let mut more = true;
     let mut turns = u64::MAX;
