@@ -39,6 +39,7 @@ use Rattle.serial.specs.declared.Peek.{Peek}
 use Rattle.serial.specs.Line.{ack, nack, judged, packetIn}
 use Rattle.serial.specs.Responses.{peek, response, answerTo}
 use Rattle.serial.specs.Steps.{byFate, handledOn, stepped}
+use Rattle.serial_promises.proofs.Streams.{firstOf}
 
 -- a refused packet leaves device and flash
 module _ (k : Numbers) (d : Device) (F p R : List ℕ) (r : Refusal) where
@@ -70,10 +71,6 @@ refused-still k l F p R r b e = by (soundFor k l) refl e
     by false s q = (refl, refl)
 
 -- a response does not begin as a NACK
-abbrev firstOf : List ℕ → ℕ
-firstOf [] = 0
-firstOf (b ∷ s) = b
-
 pick-first : (t : Bool) (x y : List ℕ) → firstOf x ≡ 0 → firstOf y ≡ 0 → firstOf (pick t x y) ≡ 0
 unfolding pick
 pick-first true x y p q = p

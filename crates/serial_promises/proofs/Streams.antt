@@ -21,20 +21,17 @@ use Rattle.serial.specs.Steps.{step, byFate, stepped}
 use Rattle.serial.specs.InPlace.{Placed, steppedInPlace}
 use Rattle.serial_promises.specs.Streams.{Line, onward, next, afterAll, NoneWhole, more, Effect, nothing, event}
 
+-- the first byte of what is sent
+abbrev pub firstOf : List ℕ → ℕ
+firstOf [] = 0
+firstOf (b ∷ s) = b
+
 -- (a) AFTER A NACK the reader is exactly as new, and record and flash are as before
 fate-nacked : (f : Fate) (k : Numbers) (s l F : List ℕ) → byFate f k s l F .message ≡ nack ∷ [] → byFate f k s l F ≡ step [] l F (nack ∷ []) 0
 fate-nacked More k s l F e = absurd (let z : _≡_ {A = ℕ} 0 1 = cc in omega arith)
-fate-nacked Right k s l F e = absurd (omega (arith, ap first-of e))
-  where
-    first-of : List ℕ → ℕ
-    first-of [] = 0
-    first-of (b ∷ s) = b
+fate-nacked Right k s l F e = absurd (omega (arith, ap firstOf e))
 fate-nacked Wrong k s l F e = refl
-fate-nacked (Whole c) k s l F e = absurd (omega (arith, ap first-of e))
-  where
-    first-of : List ℕ → ℕ
-    first-of [] = 0
-    first-of (b ∷ s) = b
+fate-nacked (Whole c) k s l F e = absurd (omega (arith, ap firstOf e))
 
 pub nacked : (k : Numbers) (s l F : List ℕ) (b : ℕ) → stepped k s l F b .message ≡ nack ∷ [] → stepped k s l F b ≡ step [] l F (nack ∷ []) 0
 nacked k s l F b e = fate-nacked (judged (s ++ (b ∷ []))) k (s ++ (b ∷ [])) l F e

@@ -1,5 +1,5 @@
 -- Paper 02 §5 and source document 000 section 7.1 once more, as strings of bytes: what a well-formed command is. Nothing here follows how a
--- stream is read; proofs/Reaching.antt shows that these strings reach handle.
+-- stream is read; proofs/Reaching.antt and proofs/Only.antt show that exactly these strings reach handle from a new reader.
 use Prim.Native.Nat.{ℕ, _-_, _≤_}
 use mathlib.Core.Path.{_≡_}
 use mathlib.Core.Bool.{Bool, true, false}
