@@ -89,15 +89,15 @@ module _ (d : Device) (s : Shaped d) (w : Bounded (d .head)) where
   sizes-back : sizesIn (encode d) ≡ d .sizes
   unfolding encode headBytes
   sizes-back =
-      rw (skip 101 165 (d .locks) _ (s .locks), skip 64 101 (d .key) _ (s .key), skip 101 0 (d .kinds) _ (s .kinds))
+      rw (skip 101 (64 + 101) (d .locks) _ (s .locks), skip 64 101 (d .key) _ (s .key), skip 101 0 (d .kinds) _ (s .kinds))
       (take-at (d .sizes) _ 101 (s .sizes))
 
   keys-back : keysIn (encode d) ≡ d .bytes
   unfolding encode headBytes
   keys-back =
       rw (
-        skip 101 266 (d .locks) _ (s .locks),
-        skip 64 202 (d .key) _ (s .key),
+        skip 101 (64 + (101 + 101)) (d .locks) _ (s .locks),
+        skip 64 (101 + 101) (d .key) _ (s .key),
         skip 101 101 (d .kinds) _ (s .kinds),
         skip 101 0 (d .sizes) _ (s .sizes),
       ) (take-all 4444 (d .bytes) (omega (arith, s .bytes)))
