@@ -62,9 +62,13 @@ static uint32_t serial(const struct request *q) {
     return log - (file + LOG_AT);
 }
 
-static struct answer play_line(const struct request *q) {
+/* the serial line's calls, and those that take no buffer */
+static struct answer play_other(const struct request *q) {
     struct answer a = {0, 0, 0};
     switch (q->call) {
+    case RECORD_BYTES:
+        a.answer = grzelotka_record_bytes();
+        break;
     case SERIAL_BYTES:
         a.answer = grzelotka_serial_bytes();
         break;
@@ -114,11 +118,8 @@ static struct answer play(const struct request *q) {
         a.answer = grzelotka_handle_why(record, q->record, flash, q->flash, packet, q->packet, reply, q->reply, &reason);
         a.first = reason;
         break;
-    case RECORD_BYTES:
-        a.answer = grzelotka_record_bytes();
-        break;
     default:
-        return play_line(q);
+        return play_other(q);
     }
     return a;
 }

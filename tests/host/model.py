@@ -134,8 +134,6 @@ def store_key(device, kind, key):
 
 def idle(device, flash, opcode, payload):
     """A command other than GET_STATE while FUS is idle: (error, payload byte)."""
-    index = payload[0] if payload else 0
-    stored = 1 <= index <= len(device.keys)
     if opcode == 0xFC54:
         error, spoilt, job = check_image(device, flash)
         if spoilt is not None:
@@ -162,6 +160,17 @@ def idle(device, flash, opcode, payload):
             return 0xFF, None
         device.auth_locked = True
         return 0, None
+    if opcode == 0xFC5F:
+        if not device.rollback:
+            device.rollback, device.floor = True, device.version
+        return 0, None
+    return idle_key(device, opcode, payload)
+
+
+def idle_key(device, opcode, payload):
+    """STORE, LOAD, LOCK or UNLOAD while FUS is idle: (error, payload byte)."""
+    index = payload[0] if payload else 0
+    stored = 1 <= index <= len(device.keys)
     if opcode == 0xFC58:
         given = store_key(device, payload[0], payload[2:])
         return (0xFF, 0xFF) if given is None else (0, given)
@@ -176,13 +185,9 @@ def idle(device, flash, opcode, payload):
             return 0xFF, None
         device.locked.add(index)
         return 0, None
-    if opcode == 0xFC5E:
-        if index == 0 or index != device.loaded:
-            return 0xFF, None
-        device.loaded = 0
-        return 0, None
-    if not device.rollback:  # 0xFC5F
-        device.rollback, device.floor = True, device.version
+    if index == 0 or index != device.loaded:  # 0xFC5E
+        return 0xFF, None
+    device.loaded = 0
     return 0, None
 
 
