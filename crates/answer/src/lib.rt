@@ -1,9 +1,11 @@
 // What FUS answers to a lawful command, and why it fails one.
+#![tactic(auto)]
+
 ghost use Rattle.std.specs.Prelude.{◌≡◌};
 ghost use Rattle.answer.specs.Answers.{error_of, status_of, payload_of, reason_of, reason_in};
 
 // Every way in which a lawful command fails.
-#[derive(Drop)]
+#[derive(Clone, Copy)]
 pub enum Failure {
     // the stack runs, or a job is under way: no error becomes pending
     StackRuns,
@@ -34,7 +36,7 @@ pub enum Failure {
 }
 
 // What the seven checks find: an image at sector p that is taken, a check that fails, or one that fails and has sector p erased.
-#[derive(Drop)]
+#[derive(Clone, Copy)]
 pub enum Checked {
     Good { p: u32, size: u32, version: u32 },
     Fails(Failure),
@@ -42,7 +44,7 @@ pub enum Checked {
 }
 
 // What a lawful command is answered.
-#[derive(Drop)]
+#[derive(Clone, Copy)]
 pub enum Answer {
     // GET_STATE
     State { state: u8, error: u8 },

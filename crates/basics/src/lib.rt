@@ -1,4 +1,6 @@
 // What every crate stands on: the definitions of `specs`, and numbers read from bytes.
+#![tactic(auto)]
+
 ghost use Rattle.std.specs.Prelude.{◌≡◌, ◌+◌, ◌≤◌, length};
 ghost use Rattle.basics.specs.Words.{byte_at, joined, word_at};
 

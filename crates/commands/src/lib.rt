@@ -1,4 +1,6 @@
 // What FUS does on a lawful command, but for the user keys: each on the record's bytes, with what it is answered.
+#![tactic(auto)]
+
 ghost use Rattle.std.specs.Prelude.{◌≡◌, length};
 ghost use Rattle.device.specs.Steps.{failed};
 ghost use Rattle.device.specs.Layout.{head_in};

@@ -1,4 +1,6 @@
 // What FUS does on a lawful command: which situation, and which command.
+#![tactic(auto)]
+
 ghost use Rattle.std.specs.Prelude.{◌≡◌, length};
 ghost use Rattle.packet.specs.declared.Command.TheVariants.{UpdateAuthKey};
 ghost use Rattle.device.specs.Layout.{record_length, mode_in, head_in};

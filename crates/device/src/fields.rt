@@ -256,7 +256,7 @@ fn put(rec: &mut [u8], at: usize, part: &[u8])
     ensures { rec.new ≡ put_at rec.old at part.now }
 {
     let end = at + part.len();
-    bytes::copy(part, &mut rec[at..end]);
+    rec[at..end].copy_from_slice(part);
 }
 
 fn set_at(list: &mut [u8], i: usize, v: u8)
@@ -316,7 +316,7 @@ pub fn set_made(rec: &mut [u8], made: u8)
 }
 
 // The mode in numbers: 0 where there is no such job.
-#[derive(Drop)]
+#[derive(Clone, Copy)]
 struct Numbered {
     tag: u8,
     p: u32,

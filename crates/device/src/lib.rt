@@ -1,4 +1,6 @@
 // The device that is played: its record's bytes, which are all that it is besides its flash, and each field of them.
+#![tactic(auto)]
+
 pub mod fields;
 pub mod places;
 
@@ -7,7 +9,7 @@ ghost use Rattle.device.specs.Kind.{fresh_device};
 ghost use Rattle.device.specs.Layout.{head_in, encode};
 
 // Which program runs, and the job: the stack, or FUS, idle or with a job of which some sectors are recorded.
-#[derive(Drop)]
+#[derive(Clone, Copy)]
 pub enum Mode {
     Stack,
     Idle,
@@ -25,7 +27,7 @@ pub enum Mode {
 // Every number and flag of a device, read by name. Kept through power loss: the stack record, the boundary, the mode, how many user keys there
 // are, the authentication key's presence and lock, anti-rollback and its floor. Lost: the loaded key (0: none), the mark of the first state
 // request, the pending error (0: none), the stores made in the sector that is not recorded yet.
-#[derive(Drop)]
+#[derive(Clone, Copy)]
 pub struct Head {
     pub present: bool,
     pub version: u32,
@@ -44,7 +46,7 @@ pub struct Head {
 }
 
 // A device by value.
-#[derive(Drop)]
+#[derive(Clone, Copy)]
 pub struct Device {
     pub bytes: [u8; 4853],
 }

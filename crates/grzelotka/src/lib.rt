@@ -1,4 +1,6 @@
 // The calls as the C test host has them (include/grzelotka.h): each is the record's call with its answer as a number.
+#![tactic(auto)]
+
 ghost use Rattle.std.specs.Prelude.{◌≡◌, not, eqb, length};
 ghost use Rattle.packet.specs.Packets.{read_of};
 ghost use Rattle.reply.specs.Message.{next_message};

@@ -1,4 +1,6 @@
 // Bench images in a lent flash: the search, the header, the sum, and the seven checks. `size` is the size of a sector.
+#![tactic(auto)]
+
 ghost use Rattle.std.specs.Prelude.{◌≡◌, ◌+◌, ◌-◌, ◌*◌, ◌<◌, ◌≤◌, length};
 ghost use Rattle.image.specs.Sums.{sum_of, begins};
 ghost use Rattle.image.specs.Images.{find, header_of, header_lawful, room_for, tag_key_is, tag_lawful, floor_lawful, judged, checked_of, Erasable, flash_after};
@@ -6,13 +8,13 @@ ghost use Rattle.image.specs.Images.{find, header_of, header_lawful, room_for, t
 use answer::{Checked, Failure};
 
 // Where an image starts.
-#[derive(Drop)]
+#[derive(Clone, Copy)]
 pub enum Found {
     At(usize),
     Nowhere,
 }
 
-#[derive(Drop)]
+#[derive(Clone, Copy)]
 pub struct Header {
     pub kind: u8,
     pub seal: u8,
@@ -24,7 +26,7 @@ pub struct Header {
 
 // What a device asks of an image: that it lies below the boundary; its tag key, where an authentication key is stored; a version not
 // under the floor, where anti-rollback is on.
-#[derive(Drop)]
+#[derive(Clone, Copy)]
 pub struct Terms {
     pub boundary: usize,
     pub auth: bool,

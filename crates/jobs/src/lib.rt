@@ -1,5 +1,7 @@
 // A job's store, whole or cut, as it changes the record: only the bytes that change are stored. `size` is the size of a sector, `top` the
 // first sector of FUS.
+#![tactic(auto)]
+
 pub mod stores;
 
 ghost use Rattle.std.specs.Prelude.{◌≡◌, true, false, suc, length};

@@ -1,4 +1,6 @@
 // The user keys: STORE, LOAD, LOCK and UNLOAD on the record's bytes, with what each is answered.
+#![tactic(auto)]
+
 ghost use Rattle.std.specs.Prelude.{◌≡◌, length};
 ghost use Rattle.device.specs.Layout.{record_length, head_in};
 ghost use Rattle.device.specs.Fields.{Held, look_in};

@@ -1,4 +1,6 @@
 // The leaves that touch flash, as C calls them: `bench/leaves` measures them beside plain C.
+#![tactic(auto)]
+
 ghost use Rattle.std.specs.Prelude.{◌≡◌};
 ghost use Rattle.image.specs.Sums.{sum_of};
 ghost use Rattle.leaves.specs.Leaves.{held, erase_of, copies, copy_of, searches, search_of};

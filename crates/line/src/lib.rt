@@ -1,4 +1,6 @@
 // A line of hex, and the line that answers it.
+#![tactic(auto)]
+
 ghost use Rattle.std.specs.Prelude.{◌≤◌, ◌<◌, ◌*◌, ◌/◌, ◌≡◌, true, [], ◌∷◌, ◌++◌, length, take};
 ghost use Rattle.packet.specs.Packets.{opcode_of, number_of};
 ghost use Rattle.line.specs.Hex.{nibble_of, are_pairs, bytes_of, capital, decimal_of};
@@ -10,7 +12,7 @@ use packet::{Command, Reading, Refusal};
 pub const LONGEST: usize = 520;
 
 // A line with its newline: the first `len` bytes.
-#[derive(Drop)]
+#[derive(Clone, Copy)]
 pub struct Text {
     pub bytes: [u8; 12],
     pub len: usize,

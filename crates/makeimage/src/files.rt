@@ -4,7 +4,7 @@ ghost use Rattle.io.specs.Counts.{IsPrefixLen};
 use crate::messages;
 
 // What a file was read as: its first n bytes, and whether it has more. Why it can't be read was said.
-#[derive(Drop)]
+#[derive(Clone, Copy)]
 pub struct Got {
     pub n: usize,
     pub more: bool,

@@ -1,5 +1,7 @@
 // makeimage BODY IMAGE VERSION sealed|unsealed [KEY]: makes a bench image of a body. One line on standard output says what was made, or one
 // on standard error why nothing was.
+#![tactic(auto)]
+
 mod files;
 mod messages;
 
@@ -21,7 +23,7 @@ const SEAL: usize = 4;
 const KEY: usize = 5;
 
 // The word after VERSION.
-#[derive(Drop)]
+#[derive(Clone, Copy)]
 enum Seal {
     Sealed,
     Unsealed,
@@ -29,7 +31,7 @@ enum Seal {
 }
 
 // The tag key, zeros where there is none.
-#[derive(Drop)]
+#[derive(Clone, Copy)]
 struct Key {
     bytes: [u8; 64],
     failed: bool,

@@ -1,4 +1,6 @@
 // Bench images made: the 84 bytes of header that a body gets, or why it can't be an image.
+#![tactic(auto)]
+
 pub mod version;
 
 ghost use Rattle.std.specs.Prelude.{◌≡◌};
@@ -11,7 +13,7 @@ use image::Header;
 pub const LONGEST: usize = (Device::FUS_SECTOR - 1) * Device::SECTOR_SIZE - 84;
 
 // What is wanted of an image. Without a tag its key does not count.
-#[derive(Drop)]
+#[derive(Clone, Copy)]
 pub struct Wanted {
     pub version: u32,
     pub sealed: bool,
@@ -20,7 +22,7 @@ pub struct Wanted {
 }
 
 // Why a body can't be an image: the first that applies, in this order.
-#[derive(Drop)]
+#[derive(Clone, Copy)]
 pub enum Unmade {
     // the body is no multiple of 4 bytes (check 2)
     NotWords,
@@ -31,14 +33,14 @@ pub enum Unmade {
 }
 
 // What a body can be made.
-#[derive(Drop)]
+#[derive(Clone, Copy)]
 pub enum Made {
     Image(Header),
     Not(Unmade),
 }
 
 // What was made, and its bytes; all zeros where nothing was.
-#[derive(Drop)]
+#[derive(Clone, Copy)]
 pub struct Making {
     pub made: Made,
     pub header: [u8; 84],
@@ -78,8 +80,8 @@ fn header_bytes(h: Header, key: [u8; 64]) -> [u8; 84]
 {
     let front = front_bytes(h);
     let mut bytes = [0u8; 84];
-    bytes::copy(&front, &mut bytes);
-    bytes::copy(&key, &mut bytes[20..]);
+    bytes[..front.len()].copy_from_slice(&front);
+    bytes[20..].copy_from_slice(&key);
     bytes
 }
 

@@ -3,7 +3,7 @@ ghost use Rattle.std.specs.Prelude.{◌≤◌, ◌≡◌};
 ghost use Rattle.maker.specs.Versions.{digits_of, version_of};
 
 // The version that a word stands for.
-#[derive(Drop)]
+#[derive(Clone, Copy)]
 pub enum Version {
     Is(u32),
     No,

@@ -1,9 +1,11 @@
 // Packets: reading a command, and why a call is refused.
+#![tactic(auto)]
+
 ghost use Rattle.std.specs.Prelude.{◌≡◌};
 ghost use Rattle.packet.specs.Packets.{number_of, opcode_of, command_of, length_allowed, inner_allowed, judged, read_of};
 
 // Why a call is refused, in the order of the numbers 1 to 10.
-#[derive(Drop)]
+#[derive(Clone, Copy)]
 pub enum Refusal {
     UnsoundRecord,
     FlashLength,
@@ -18,7 +20,7 @@ pub enum Refusal {
 }
 
 // The lawful commands.
-#[derive(Drop)]
+#[derive(Clone, Copy)]
 pub enum Command {
     GetState,
     FwUpgrade,
@@ -34,14 +36,14 @@ pub enum Command {
 }
 
 // What an opcode stands for.
-#[derive(Drop)]
+#[derive(Clone, Copy)]
 pub enum Opcode {
     Listed(Command),
     Unlisted,
 }
 
 // What reading a packet finds: a lawful command with the length of its payload, or why there is none.
-#[derive(Drop)]
+#[derive(Clone, Copy)]
 pub enum Reading {
     Lawful { command: Command, length: u8 },
     Refused(Refusal),

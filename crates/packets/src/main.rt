@@ -1,11 +1,13 @@
 // Reads one packet a line in hex from standard input, and writes for each line its answer.
+#![tactic(auto)]
+
 ghost use Rattle.std.specs.Prelude.{◌≤◌, length};
 
 // Room for one byte more than the longest line that is read: a line that fills it is too long.
 const ROOM: usize = line::LONGEST + 1;
 
 // How far a turn came: how many bytes of the present line are kept, and whether there may be more to read.
-#[derive(Drop)]
+#[derive(Clone, Copy)]
 struct Turn {
     kept: usize,
     more: bool,

@@ -1,12 +1,14 @@
 // A job as stores: where the image goes, which sectors are cleared, and which store is next. `size` is the size of a sector, `top` the
 // first sector of FUS.
+#![tactic(auto)]
+
 ghost use Rattle.std.specs.Prelude.{◌≡◌, ◌+◌, ◌-◌, ◌*◌, ◌≤◌, ◌<◌, min};
 ghost use Rattle.plan.specs.Placement.{Able, blocks, goal, cleared_image, cleared_count};
 ghost use Rattle.plan.specs.Stores.{steps, clearing, plan_of, next, left};
 ghost use Rattle.plan.specs.Range.{InRange};
 
 // A job: an image of `size` bytes at sector p, and an old stack from the boundary on. A delete has p 0 and size 0.
-#[derive(Drop)]
+#[derive(Clone, Copy)]
 pub struct Job {
     pub p: usize,
     pub size: usize,
@@ -14,7 +16,7 @@ pub struct Job {
 }
 
 // A store: a sector is erased, or written with the first `count` bytes of another; a sector is recorded; or the last store.
-#[derive(Drop)]
+#[derive(Clone, Copy)]
 pub enum Store {
     Erase {
         target: usize,

@@ -9,21 +9,21 @@ pub fn room() -> [u8; ROOM] {
 }
 
 // What of the buffer is still to be taken.
-#[derive(Drop)]
+#[derive(Clone, Copy)]
 pub struct Input {
     pub at: usize,
     pub end: usize,
 }
 
 // A line: how many bytes of it are kept, and whether a newline ended it.
-#[derive(Drop)]
+#[derive(Clone, Copy)]
 pub struct Line {
     pub length: usize,
     pub ended: bool,
     pub input: Input,
 }
 
-#[derive(Drop)]
+#[derive(Clone, Copy)]
 enum Next {
     Byte(u8, Input),
     End,

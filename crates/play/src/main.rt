@@ -1,5 +1,7 @@
 // Plays a script on one device: reads orders, one a line, from standard input, and writes for each line exactly one reply line. docs/PLAY.md has
 // every order.
+#![tactic(auto)]
+
 mod bench;
 mod input;
 mod say;

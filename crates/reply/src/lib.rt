@@ -1,4 +1,6 @@
 // Replies: a response or an event written to a buffer, and the next message.
+#![tactic(auto)]
+
 ghost use Rattle.std.specs.Prelude.{◌≡◌, ◌≤◌, leb, length};
 ghost use Rattle.basics.specs.Words.{zeros};
 ghost use Rattle.reply.specs.Replies.{code_of, has_payload, response, event, replied};
@@ -46,7 +48,7 @@ fn put(buffer: &mut [u8], least: usize, message: &[u8]) -> bool
     if buffer.len() < least {
         return false;
     }
-    bytes::copy(message, buffer);
+    buffer[..message.len()].copy_from_slice(message);
     true
 }
 

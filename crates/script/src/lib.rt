@@ -1,4 +1,6 @@
 // One line of a script, read: the order that it is, with its numbers and the places in the line where its bytes stand.
+#![tactic(auto)]
+
 ghost use Rattle.std.specs.Prelude.{◌≡◌, ◌≤◌, ◌<◌, length, take, drop};
 ghost use Rattle.bytes.specs.Bytes.{index_of};
 ghost use Rattle.line.specs.Answer.{Counted};
@@ -11,7 +13,7 @@ use device::Device;
 pub const LONGEST: usize = 4400;
 
 // What a line asks for.
-#[derive(Drop)]
+#[derive(Clone, Copy)]
 pub enum Order {
     // an empty line or a remark
     Nothing,
@@ -35,7 +37,7 @@ pub enum Order {
 }
 
 // What is wrong with a line.
-#[derive(Drop)]
+#[derive(Clone, Copy)]
 pub enum Fault {
     // over 4,400 bytes
     LineLong,
@@ -61,14 +63,14 @@ pub enum Fault {
 }
 
 // What a word is in decimal.
-#[derive(Drop)]
+#[derive(Clone, Copy)]
 enum Decimal {
     Number(usize),
     NoNumber,
 }
 
 // What a word is as a pair of hex digits.
-#[derive(Drop)]
+#[derive(Clone, Copy)]
 enum Pair {
     Value(u8),
     NoValue,

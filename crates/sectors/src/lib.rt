@@ -1,4 +1,6 @@
 // Sectors of a lent flash: erase one, copy one, leave a filler in one. `size` is the size of a sector.
+#![tactic(auto)]
+
 ghost use Rattle.std.specs.Prelude.{◌≡◌, ◌+◌, ◌*◌, ◌≤◌, ◌<◌, length, replicate, take, drop};
 ghost use Rattle.basics.specs.Words.{put_at};
 ghost use Rattle.sectors.specs.Sectors.{sector, put_sector, erased, fit, sectors_for};
@@ -36,7 +38,7 @@ fn put(part: &mut [u8], at: usize, piece: &[u8])
     ensures { part.new ≡ put_at part.old at piece.now }
 {
     let end = at + piece.len();
-    bytes::copy(piece, &mut part[at..end]);
+    part[at..end].copy_from_slice(piece);
 }
 
 // The target sector is lent on, and with it no other sector can be reached.
@@ -69,7 +71,7 @@ fn copy_piece(flash: &mut [u8], size: usize, source: usize, target: usize, at: u
     let mut piece = [0u8; 64];
     let from = source * size + at;
     let to = from + count;
-    bytes::copy(&flash[from..to], &mut piece);
+    piece[..count].copy_from_slice(&flash[from..to]);
     let start = target * size;
     let end = start + size;
     put(&mut flash[start..end], at, &piece[..count]);

@@ -1,4 +1,6 @@
 // The factory's serial line: special read and special write, a byte at a time, on a reader's bytes in place.
+#![tactic(auto)]
+
 ghost use Rattle.std.specs.Prelude.{◌≡◌, true, [], ◌∷◌, ◌++◌, ◌+◌, ◌-◌, ◌≤◌, length, take, drop};
 ghost use Rattle.std.specs.Int.Bits.{bit_xor};
 ghost use Rattle.basics.specs.Choice.{pick};
@@ -15,7 +17,7 @@ use packet::{Command, Opcode};
 use services::Verdict;
 
 // What the bytes of a command received so far mean: more are to come, a packet is right, the command is whole, or something is wrong.
-#[derive(Drop)]
+#[derive(Clone, Copy)]
 pub enum Fate {
     More,
     Right,
@@ -24,7 +26,7 @@ pub enum Fate {
 }
 
 // Was the call taken?
-#[derive(Drop)]
+#[derive(Clone, Copy)]
 pub enum Heard {
     Taken,
     OutShort,
@@ -32,14 +34,14 @@ pub enum Heard {
 }
 
 // What GET_STATE would next reply.
-#[derive(Drop)]
+#[derive(Clone, Copy)]
 pub struct Peek {
     pub state: u8,
     pub error: u8,
 }
 
 // What is sent, with zeros behind it, and the reason beside it.
-#[derive(Drop)]
+#[derive(Clone, Copy)]
 pub struct Sent {
     pub bytes: [u8; 10],
     pub count: u8,
@@ -454,7 +456,7 @@ fn make_packet(reader: &mut [u8], command: Command) -> usize
     let size = reader[11];
     let opcode = packet::opcode_of(command);
     let head = [0x10, (opcode % 256) as u8, (opcode / 256) as u8, size];
-    bytes::copy(&head, &mut reader[8..12]);
+    reader[8..12].copy_from_slice(&head);
     12 + size as usize
 }
 
@@ -527,6 +529,6 @@ pub fn byte(
     *sent = answer.count;
     *reason = answer.reason;
     let bytes = answer.bytes;
-    bytes::copy(&bytes, out);
+    out[..bytes.len()].copy_from_slice(&bytes);
     Heard::Taken
 }

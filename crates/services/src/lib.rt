@@ -1,4 +1,6 @@
 // The calls on a record's bytes, in place: fresh device, handle a packet, restart, work (one store), cut. `value` has them by value.
+#![tactic(auto)]
+
 pub mod value;
 
 ghost use Rattle.std.specs.Prelude.{◌≡◌, true, ◌*◌, ◌≤◌, length};
@@ -16,7 +18,7 @@ use image::Terms;
 use packet::{Command, Reading, Refusal};
 
 // The numbers of a kind of device: bytes in a sector, sectors of the lent flash, the first sector of FUS.
-#[derive(Drop)]
+#[derive(Clone, Copy)]
 pub struct Numbers {
     pub size: usize,
     pub count: usize,
@@ -24,14 +26,14 @@ pub struct Numbers {
 }
 
 // Was the call taken?
-#[derive(Drop)]
+#[derive(Clone, Copy)]
 pub enum Verdict {
     Taken,
     Refused(Refusal),
 }
 
 // What handle answers: also why a key was turned down, as a number; 0 for no reason.
-#[derive(Drop)]
+#[derive(Clone, Copy)]
 pub struct Told {
     pub verdict: Verdict,
     pub reason: u8,

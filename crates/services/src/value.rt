@@ -7,7 +7,7 @@ use crate::Verdict;
 use device::Device;
 
 // What handle gives back: also why a key was turned down, as a number; 0 for no reason.
-#[derive(Drop)]
+#[derive(Clone, Copy)]
 pub struct Handled {
     pub verdict: Verdict,
     pub device: Device,
@@ -15,14 +15,14 @@ pub struct Handled {
 }
 
 // What restart and cut give back.
-#[derive(Drop)]
+#[derive(Clone, Copy)]
 pub struct Started {
     pub verdict: Verdict,
     pub device: Device,
 }
 
 // What work gives back: also the stores still to do.
-#[derive(Drop)]
+#[derive(Clone, Copy)]
 pub struct Worked {
     pub verdict: Verdict,
     pub device: Device,

@@ -1,4 +1,6 @@
 // Is a device sound? `size` is the size of a sector, `top` the first sector of FUS.
+#![tactic(auto)]
+
 ghost use Rattle.std.specs.Prelude.{◌≡◌, ◌≤◌, ◌<◌, ltb, length};
 ghost use Rattle.basics.specs.Choice.{pick};
 ghost use Rattle.plan.specs.Range.{InRange};

@@ -1,0 +1,15 @@
+use mathlib.Core.Path.{◌≡◌, refl, ◌∙◌}
+use mathlib.Core.List.{◌++◌, append-nil}
+use Prim.Native.Nat.{◌≤◌, ◌<◌, ◌-◌}
+use native.Mathlib.Omega.{arith}
+use lib.ListN.{length, drop, replicate}
+use lib.Seq.{drop-length}
+use borrow.Author.Fill.{fill_more}
+use borrow.Author.Rules.{rules}
+use Rattle.sectors.proofs.fill.Given as goal
+
+abbrev pub invariant-loop-i : goal.invariant-loop-i
+invariant-loop-i l = (l.i ≤ length l.initial.part) × (length l.part ≡ length l.initial.part) × (l.part ≡ replicate l.i l.value ++ drop l.i l.initial.part)
+
+abbrev pub decreases-loop-i : goal.decreases-loop-i
+decreases-loop-i l = length l.initial.part - l.i
