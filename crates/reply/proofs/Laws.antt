@@ -29,9 +29,9 @@ drop_zeros (suc k) zero = rw zero-sub
 drop_zeros (suc k) (suc n) = simp unary_clauses (drop_zeros k n)
 
 -- a message that was copied over a buffer of zeros
-pub over_zeros : (least n : ℕ) (message : List ℕ) → least ≤ n → take (length message) message ++ drop (length message) (zeros n) ≡ replied least n message
+pub over_zeros : (least n : ℕ) (message : List ℕ) → least ≤ n → message ++ drop (length message) (zeros n) ≡ replied least n message
 unfolding replied
-over_zeros least n message h = rw (take-length, drop_zeros) (yes_by _ _ _ _ (le-leb least n h) refl)
+over_zeros least n message h = rw drop_zeros (yes_by _ _ _ _ (le-leb least n h) refl)
 
 -- a zero after a message is one of the zeros beyond it
 zero_after : (least n : ℕ) (s : List ℕ) (t : Bool) → leb least n ≡ t → length s < least → replied least n (s ++ 0 ∷ []) ≡ replied least n s

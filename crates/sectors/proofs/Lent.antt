@@ -34,12 +34,11 @@ blank_back l a h =
     rw (wide, drop_of_length-le (drop a l) none, append-nil)
 
 -- what was copied to the front of d, from the n bytes at a on
-pub carried : (l d : List ℕ) (a n : ℕ) → a + n ≤ length l
-    → take n (take (length (mid_of a (a + n - a) l)) (mid_of a (a + n - a) l) ++ drop (length (mid_of a (a + n - a) l)) d) ≡ take n (drop a l)
+pub carried : (l d : List ℕ) (a n : ℕ) → a + n ≤ length l → take n (mid_of a (a + n - a) l ++ drop n d) ≡ take n (drop a l)
 carried l d a n h =
     let e : a + n - a ≡ n = omega arith in
     let long : length (take n (drop a l)) ≡ n = simp (length-take, length-drop) (omega arith) in
-    rw (e, take-length, take_at (take n (drop a l)) (drop (length (take n (drop a l))) d) n long)
+    rw (e, take_at (take n (drop a l)) (drop n d) n long)
 
 -- sector t, lent as the part from t * S to t * S + S
 module _ (S t : ℕ) (F : List ℕ) where

@@ -1,29 +1,16 @@
 use mathlib.Core.Path.{◌≡◌, ap, ◌∙◌}
+use mathlib.Core.List.{◌++◌}
 use Prim.Native.Nat.{◌+◌, ◌*◌}
 use native.Mathlib.Omega.{arith}
-use lib.ListN.{take, drop, replicate, length-take, length-drop}
+use lib.ListN.{take, drop, replicate}
 use Rattle.sectors.proofs.Lent.{carried, piece_back}
-use borrow.Author.Rules.{rules}
 use Rattle.sectors.proofs.copy_piece.Goals as goal
-
--- LOST sub-copy : tie.Need-overflow-sub-copy
--- sub-copy c = search rules
-
--- LOST part-copy-start : tie.Need-slice-bounds-copy-start
--- part-copy-start c = search rules
-
--- LOST part-copy-end : tie.Need-slice-bounds-copy-end
--- part-copy-end c = search rules
-
--- LOST slice-aggregate-copy : tie.Need-slice-aggregate-copy
--- slice-aggregate-copy c = search rules
-
--- LOST copy-requires : tie.Need-copy-requires
--- copy-requires c κs = search rules
 
 pub returns : goal.returns
 returns c =
-    let from = ?BAD_a.source * ?BAD_a.size + ?BAD_a.at in
-    let held : take ?BAD_a.count ?BAD_copy.copy.new.1.0 ≡ take ?BAD_a.count (drop from ?BAD_a.flash.now) =
-    ap (take ?BAD_a.count) ?BAD_copy.copy.ensures.1 ∙ carried ?BAD_a.flash.now (replicate 64 0) from ?BAD_a.count (omega arith) in
-    piece_back ?BAD_a.size ?BAD_a.target ?BAD_a.flash.now ?BAD_a.source ?BAD_a.at ?BAD_a.count (take ?BAD_a.count ?BAD_copy.copy.new.1.0) c.put.new.part ?BAD_st.requires.1.1 held c.put.ensures
+    let a = c.args in
+    let from = a.source * a.size + a.at in
+    let piece = c.copy_from_slice.new.self ++ drop a.count (replicate 64 0) in
+    let held : take a.count piece ≡ take a.count (drop from a.flash.now) =
+    ap (λ x. take a.count (x ++ drop a.count (replicate 64 0))) c.copy_from_slice.ensures.after ∙ carried a.flash.now (replicate 64 0) from a.count (omega arith) in
+    piece_back a.size a.target a.flash.now a.source a.at a.count (take a.count piece) c.put.new.part c.requires.count_bound.1 held c.put.ensures
