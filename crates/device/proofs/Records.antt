@@ -146,15 +146,15 @@ abbrev pub blank : Device
 blank =
     record { head = blank_head; locks = zeros 101; key = zeros 64; kinds = zeros 101; sizes = zeros 101; bytes = zeros 4444 }
 
-blank_head : zeros locks_at ≡ head_bytes blank_head
+blank_head_lem : zeros locks_at ≡ head_bytes blank_head
 unfolding zeros head_bytes
-blank_head = refl
+blank_head_lem = refl
 
 pub zeros_blank : zeros record_length ≡ encode blank
 unfolding decode
 zeros_blank =
     let l : List ℕ = zeros record_length in
-    let e : take locks_at l ≡ head_bytes blank_head = part_zeros 0 locks_at record_length (lit≤ tt) ∙ blank_head in
+    let e : take locks_at l ≡ head_bytes blank_head = part_zeros 0 locks_at record_length (lit≤ tt) ∙ blank_head_lem in
     let f : put_at l 0 (head_bytes blank_head) ≡ l = rw (head_length blank_head, ← e, take-append-drop locks_at l) in
     sym f ∙ put_head l (length_zeros record_length) blank_head
     ∙ ap encode

@@ -1,0 +1,7 @@
+use Rattle.device.specs.Layout.{is_head}
+use borrow.Author.Rules.{rules}
+use Rattle.device.proofs.fields.is_head.Goals as goal
+
+pub returns : goal.returns
+unfolding is_head
+returns c = rw (c.recorded.ensures, c.image_version.ensures, c.size.ensures, c.image.ensures, c.tag-tag.ensures)

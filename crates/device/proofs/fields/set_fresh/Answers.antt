@@ -1,0 +1,15 @@
+use Rattle.basics.specs.Words.{zeros}
+use mathlib.Core.Path.{◌∙◌, ap}
+use Rattle.device.proofs.Records.{blank, zeros_blank}
+use Rattle.device.specs.Kind.{fresh_device}
+use borrow.Author.Rules.{rules}
+use Rattle.device.proofs.fields.set_fresh.Goals as goal
+
+-- LOST same_length : tie.Need-same-length
+-- same_length c = search rules
+
+pub returns : goal.returns
+unfolding fresh_device
+returns c =
+    let z = c.clear.ensures ∙ ap zeros c.requires ∙ zeros_blank in
+    c.set_mode.ensures _ (c.set_stack.ensures blank z)

@@ -1,0 +1,10 @@
+use Rattle.std.proofs.Common.{◌≡◌, ◌+◌, ◌-◌, ◌*◌, ◌≤◌, true, false, length, sym, refl, ◌∙◌, arith, rules}
+use Rattle.image.specs.Images.{find}
+use Rattle.image.proofs.Laws.{last, starts_there, find_hit, find_miss, find_none}
+use Rattle.image.proofs.find_image.Given as goal
+
+abbrev pub invariant-loop-t : goal.invariant-loop-t
+invariant-loop-t l = (t ≤ l.boundary) × (t * l.size ≤ length l.flash) × (find l.size l.flash l.boundary ≡ find l.size l.flash t)
+
+abbrev pub decreases-loop-t : goal.decreases-loop-t
+decreases-loop-t l = t
