@@ -1,0 +1,8 @@
+use Rattle.device.specs.Layout.{decode}
+use Rattle.device.proofs.Records.{locks_length}
+use borrow.Author.Rules.{rules}
+use Rattle.jobs.proofs.finish.Goals as goal
+
+pub returns : goal.returns
+unfolding decode
+returns c = c.lose.ensures _ (locks_length c.args.rec.now c.requires.held.size) c.commit.ensures

@@ -1,0 +1,10 @@
+use mathlib.Core.Path.{◌≡◌, ◌∙◌, ap}
+use mathlib.Core.Bool.{true, false}
+use Rattle.device.specs.Layout.{decode}
+use Rattle.jobs.proofs.Bytes.{still}
+use borrow.Author.Rules.{rules}
+use Rattle.jobs.proofs.put_made.Goals as goal
+
+pub returns : goal.returns
+unfolding decode
+returns c = c.set_made.ensures (decode c.args.rec.now) c.requires.held.same ∙ still (decode c.args.rec.now) c.args.size c.args.top c.args.made
