@@ -1,0 +1,8 @@
+use native.Mathlib.Omega.{arith}
+use Rattle.serial.specs.Line.{is_open}
+use borrow.Author.Rules.{rules}
+use Rattle.serial.proofs.is_open.Goals as goal
+
+pub returns : goal.returns
+unfolding is_open
+returns c = rw (c.pair_right.ensures, c.opcode_right.ensures, c.address_right.ensures, c.address_checked.ensures, c.is_write.ensures, c.size_right.ensures, c.number_at.ensures.value)
