@@ -123,7 +123,7 @@ module _ (k : Numbers) (l F r : List ℕ) (b : ℕ) (O : List ℕ) where
         rw (ap (λ (z : Told). z.sent.bytes) t, length-append, length_zeros) (omega arith)
 
     pub byte_placed : (l₁ F₁ r₁ w o : List ℕ) (x : Sent) → w ≡ reader_bytes (received_in r ++ (b ∷ []))
-        → told l₁ F₁ r₁ x ≡ told_by (heard k (received_in w) l F) → o ≡ take (length x.bytes) x.bytes ++ drop (length x.bytes) (zeros (length O))
+        → told l₁ F₁ r₁ x ≡ told_by (heard k (received_in w) l F) → o ≡ x.bytes ++ drop 10 (zeros (length O))
         → placed Heard-Taken l₁ F₁ r₁ o x.count x.reason ≡ stepped_in_place k l F r b O
     unfolding stepped_in_place pick
     byte_placed l₁ F₁ r₁ w o x q t out =
@@ -133,8 +133,7 @@ module _ (k : Numbers) (l F r : List ℕ) (b : ℕ) (O : List ℕ) where
         let sent : x ≡ sent_of y.message y.reason = ap (λ (z : Told). z.sent) same in
         let bytes : x.bytes ≡ y.message ++ zeros (10 - length y.message) = ap (λ (z : Sent). z.bytes) sent in
         let few : length y.message ≤ 10 = fate_few (judged s) k s l F in
-        let ten : length x.bytes ≡ 10 = sent_ten s l₁ F₁ r₁ x same in
-        let front : take (length x.bytes) x.bytes ++ drop (length x.bytes) (zeros (length O)) ≡ (y.message ++ zeros (10 - length y.message)) ++ drop 10 (zeros (length O)) = rw (take-length, ten, bytes) in
+        let front : x.bytes ++ drop 10 (zeros (length O)) ≡ (y.message ++ zeros (10 - length y.message)) ++ drop 10 (zeros (length O)) = rw bytes in
         let buffer : o ≡ replied 10 (length O) y.message = out ∙ front ∙ out_is y.message (length O) few room in
         rw (
           le-leb 10 (length O) room,
