@@ -35,11 +35,13 @@ step_on s bs b n e lo later = rw append_assoc at (by (ltb (length t) n) refl)
         rw (take_at t bs n len) e
 
 pub goes_on : (s bs : List ℕ) (c : Command) → Reaches s bs c → (n : ℕ) → length s < n → n < length s + length bs → kept (judged (take n (s ++ bs))) ≡ true
+goes_on s [] c r n lo hi = elim r [ ]
 goes_on s (b ∷ []) c (last e) n lo hi = absurd (omega arith)
 goes_on s (b ∷ bs) c (on e r) n lo hi =
     step_on s bs b n e lo (λ h. goes_on (s ++ (b ∷ [])) bs c r n h (omega (arith, length-append s (b ∷ []))))
 
 pub ends_whole : (s bs : List ℕ) (c : Command) → Reaches s bs c → judged (s ++ bs) ≡ Whole c
+ends_whole s [] c r = elim r [ ]
 ends_whole s (b ∷ []) c (last e) = e
 ends_whole s (b ∷ bs) c (on e r) = rw append_assoc at (ends_whole (s ++ (b ∷ [])) bs c r)
 

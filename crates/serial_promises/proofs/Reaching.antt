@@ -33,6 +33,7 @@ kept_line (Whole c) k s l F e = absurd (let z : ◌≡◌ {A = ℕ} 0 1 = cc in 
 pub reached : (k : Numbers) (s bs l F : List ℕ) (c : Command) → Reaches s bs c
     → after_all k bs (line s l F) ≡ onward (after_handle c (handled_on k c (s ++ bs) l F))
 unfolding after_all
+reached k s [] l F c r = elim r [ ]
 reached k s (b ∷ []) l F c (last e) = ap (λ (f : Fate). onward (by_fate f k (s ++ (b ∷ [])) l F)) e
 reached k s (b ∷ bs) l F c (on e r) =
     let t = s ++ (b ∷ []) in

@@ -7,7 +7,8 @@ use Rattle.leaves.proofs.leaves_copy.Goals as goal
 
 pub copy-requires : goal.copy-requires
 copy-requires c =
-    copies_inside c.args.size (length c.args.flash.now) c.args.source c.args.target c.args.count (search cases)
+    let inside = copies_inside c.args.size (length c.args.flash.now) c.args.source c.args.target c.args.count (search cases) in
+    record { size_in_bounds = inside.0; count_le_size = inside.1 }
 
 pub returns-then-may_copy : goal.returns-then-may_copy
 unfolding copy_of
