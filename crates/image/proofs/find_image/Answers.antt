@@ -3,9 +3,6 @@ use Rattle.image.specs.Images.{find}
 use Rattle.image.proofs.Laws.{last, starts_there, find_hit, find_miss, find_none}
 use Rattle.image.proofs.find_image.Goals as goal
 
--- LOST slice-aggregate-starts : tie.Need-slice-aggregate-starts invariant-loop decreases-loop
--- slice-aggregate-starts c = refl
-
 pub returns-then-starts : goal.returns-then-starts
 returns-then-starts c =
     let told = starts_there c.args.flash.now ((c.loop-t.t - 1) * c.args.size) _ true c.starts.ensures c.if-starts.true in

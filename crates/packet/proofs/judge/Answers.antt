@@ -2,12 +2,6 @@ use borrow.Author.Rules.{rules}
 use Rattle.basics.specs.Choice.{cases}
 use Rattle.packet.proofs.judge.Goals as goal
 
--- LOST enum_told : tie.Need-enum-told
--- enum_told c = search rules
-
--- LOST enum-known-opcode : tie.Need-enum-known-opcode
--- enum-known-opcode c = search rules
-
 pub returns-then-not-length_allowed : goal.returns-then-not-length_allowed
 returns-then-not-length_allowed c = rw c.in-Listed.is (search cases)
 

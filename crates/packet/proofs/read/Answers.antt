@@ -4,12 +4,6 @@ use Rattle.basics.specs.Choice.{cases}
 use Rattle.packet.specs.Packets.{read_of}
 use Rattle.packet.proofs.read.Goals as goal
 
--- LOST cast-opcode : tie.Need-overflow-cast-opcode
--- cast-opcode c = omega (arith, c.shared-slice-known4.given 1, c.shared-slice-known4.given 2)
-
--- LOST cast-opcode-2 : tie.Need-overflow-cast-opcode-2
--- cast-opcode-2 c = omega (arith, c.shared-slice-known5.given 1, c.shared-slice-known5.given 2)
-
 pub returns-then-s-lt4 : goal.returns-then-s-lt4
 unfolding read_of
 returns-then-s-lt4 c = search cases

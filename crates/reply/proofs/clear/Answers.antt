@@ -9,9 +9,6 @@ use borrow.Author.Rules.{rules}
 use Rattle.basics.specs.Words.{zeros}
 use Rattle.reply.proofs.clear.Goals as goal
 
--- LOST same_length : tie.Need-same-length invariant-loop decreases-loop
--- same_length c = search rules
-
 pub returns : goal.returns
 unfolding zeros
 returns c =

@@ -2,9 +2,6 @@ use borrow.Author.Rules.{rules}
 use Rattle.reply.specs.Replies.{event}
 use Rattle.reply.proofs.write_event.Goals as goal
 
--- LOST same_length : tie.Need-same-length
--- same_length c = search rules
-
 pub returns : goal.returns
 unfolding event
 returns c =

@@ -2,9 +2,6 @@ use Rattle.sectors.proofs.Lent.{blank_back}
 use borrow.Author.Rules.{rules}
 use Rattle.sectors.proofs.blank.Goals as goal
 
--- LOST same_length : tie.Need-same-length
--- same_length c = search rules
-
 pub returns : goal.returns
 returns c =
     rw c.fill.ensures (blank_back c.args.part.now c.args.from c.requires)

@@ -7,9 +7,6 @@ use Rattle.sectors.proofs.Lent.{over, some_none, some_more, some_all}
 use borrow.Author.Rules.{rules}
 use Rattle.sectors.proofs.copy.Goals as goal
 
--- LOST same_length : tie.Need-same-length invariant-loop decreases-loop
--- same_length c = search rules
-
 pub loop-at-init : goal.loop-at-init
 loop-at-init c =
     (search rules, refl, some_none c.args.size c.args.flash.now c.args.source c.args.target c.requires.size_in_bounds.0 c.requires.size_in_bounds.1 c.requires.count_le_size.1)

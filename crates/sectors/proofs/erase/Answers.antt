@@ -2,9 +2,6 @@ use Rattle.sectors.proofs.Lent.{erased_back}
 use borrow.Author.Rules.{rules}
 use Rattle.sectors.proofs.erase.Goals as goal
 
--- LOST same_length : tie.Need-same-length
--- same_length c = search rules
-
 pub returns : goal.returns
 returns c =
     erased_back c.args.size c.args.target c.args.flash.now c.requires c.blank.new.part c.blank.ensures

@@ -11,9 +11,6 @@ use Rattle.serial.proofs.Outcomes.{more_told, right_told, wrong_told}
 use borrow.Author.Rules.{rules}
 use Rattle.serial.proofs.hear.Goals as goal
 
--- LOST cast-end : tie.Need-overflow-cast-end
--- cast-end c = let r = c.before.before.before.before.args.reader.now in let f = c.before.before.before.before.requires in omega (arith, filled_length r f, filled_count r f, f.few)
-
 pub bounds-reader-0 : goal.bounds-reader-0
 bounds-reader-0 c = omega (arith, filled_length c.args.reader.now c.requires, filled_count c.args.reader.now c.requires, c.requires.few)
 

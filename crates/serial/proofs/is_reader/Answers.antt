@@ -9,9 +9,6 @@ use borrow.Author.Rules.{rules}
 use Rattle.serial.proofs.Readers.{reader_test}
 use Rattle.serial.proofs.is_reader.Goals as goal
 
--- LOST cast-n : tie.Need-overflow-cast-n
--- cast-n c = omega (arith, c.before.before.shared-slice-known.given 0)
-
 pub returns-then-reader-ne-LENGTH : goal.returns-then-reader-ne-LENGTH
 unfolding is_reader
 returns-then-reader-ne-LENGTH c = search cases

@@ -7,9 +7,6 @@ use Rattle.device.proofs.Records.{no_lock, lock_length}
 use borrow.Author.Rules.{rules}
 use Rattle.device.proofs.fields.lock_slot.Goals as goal
 
--- LOST same_length : tie.Need-same-length
--- same_length c = search rules
-
 pub returns-then-at-ge-SLOTS : goal.returns-then-at-ge-SLOTS
 returns-then-at-ge-SLOTS c =
     let n : length c.args.rec.now ≡ record_length = c.requires in

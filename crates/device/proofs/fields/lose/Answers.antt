@@ -7,9 +7,6 @@ use Rattle.device.proofs.Stored.{drop_in}
 use borrow.Author.Rules.{rules}
 use Rattle.device.proofs.fields.lose.Goals as goal
 
--- LOST same_length : tie.Need-same-length
--- same_length c = search rules
-
 pub returns : goal.returns
 returns c = λ d k e.
     let z : put_at c.args.rec.now locks_at (zeros 101) ≡ encode (with_locks (zeros 101) d) = rw e (drop_in d k) in

@@ -3,9 +3,6 @@ use Rattle.device.proofs.Records.{stored_key_lem}
 use borrow.Author.Rules.{rules}
 use Rattle.device.proofs.fields.put_key.Goals as goal
 
--- LOST same_length : tie.Need-same-length
--- same_length c = search rules
-
 pub returns : goal.returns
 returns c =
     stored_key_lem c.args.rec.now _ _ c.set_at.new.list c.set_at-2.new.list c.put.new.rec

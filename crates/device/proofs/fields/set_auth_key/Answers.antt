@@ -5,9 +5,6 @@ use Rattle.device.proofs.Stored.{effect_in}
 use borrow.Author.Rules.{rules}
 use Rattle.device.proofs.fields.set_auth_key.Goals as goal
 
--- LOST same_length : tie.Need-same-length
--- same_length c = search rules
-
 pub returns : goal.returns
 returns c =
     c.put.ensures ∙ effect_in c.args.rec.now c.requires.held Auth c.args.key.now (eq-eqb _ _ c.requires.key_len)

@@ -5,9 +5,6 @@ use Rattle.device.specs.Kind.{fresh_device}
 use borrow.Author.Rules.{rules}
 use Rattle.device.proofs.fields.set_fresh.Goals as goal
 
--- LOST same_length : tie.Need-same-length
--- same_length c = search rules
-
 pub returns : goal.returns
 unfolding fresh_device
 returns c =

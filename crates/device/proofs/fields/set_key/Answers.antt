@@ -6,9 +6,6 @@ use Rattle.device.proofs.Stored.{effect_in}
 use borrow.Author.Rules.{rules}
 use Rattle.device.proofs.fields.set_key.Goals as goal
 
--- LOST same_length : tie.Need-same-length
--- same_length c = search rules
-
 pub returns : goal.returns
 returns c =
     c.put_key.ensures ∙ effect_in c.args.rec.now c.requires.held (Put c.args.slot c.args.kind) c.args.key.now (both_true _ _ (le-leb _ _ c.requires.slot_bound.0) (le-leb _ _ c.requires.slot_bound.1))

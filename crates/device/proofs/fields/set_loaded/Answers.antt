@@ -2,9 +2,6 @@ use Rattle.device.specs.Layout.{head_bytes, encode}
 use borrow.Author.Rules.{rules}
 use Rattle.device.proofs.fields.set_loaded.Goals as goal
 
--- LOST same_length : tie.Need-same-length
--- same_length c = search rules
-
 pub returns : goal.returns
 unfolding encode head_bytes
 returns c = λ d e. rw e

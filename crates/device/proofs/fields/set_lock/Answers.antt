@@ -6,9 +6,6 @@ use Rattle.device.proofs.Stored.{effect_in}
 use borrow.Author.Rules.{rules}
 use Rattle.device.proofs.fields.set_lock.Goals as goal
 
--- LOST same_length : tie.Need-same-length
--- same_length c = search rules
-
 pub returns : goal.returns
 unfolding decode
 returns c =
