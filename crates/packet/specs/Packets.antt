@@ -1,5 +1,5 @@
 -- Paper 01, "Packets" and the refusals of reading: a command is 0x10, opcode low byte first, payload length (1 byte), payload.
-use Rattle.std.specs.Prelude.{ℕ, ◌+◌, ◌*◌, Bool, true, List, leb, ltb, eqb, length}
+use Rattle.std.specs.Prelude.{ℕ, ◌+◌, Bool, true, List, leb, ltb, eqb, length}
 use Rattle.basics.specs.Choice.{pick}
 use Rattle.basics.specs.Words.{byte_at, half_at}
 use Rattle.packet.specs.declared.Refusal.{Refusal}

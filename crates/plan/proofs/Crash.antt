@@ -4,7 +4,7 @@ use mathlib.Core.Path.{◌≡◌, refl, ap, ◌∙◌}
 use mathlib.Core.List.{List, [], ◌∷◌, ◌++◌}
 use native.Mathlib.Omega.{arith}
 use lib.ListN.{length}
-use Rattle.plan.specs.Stores.{Plan, steps, Progress, going, ended, left, left_at}
+use Rattle.plan.specs.Stores.{Plan, steps, Progress, going, ended, left_at}
 use Rattle.plan.specs.Safe.{Safe}
 use Rattle.plan.specs.Uncut.{after}
 use Rattle.plan.specs.Events.{Event, work, cut, restart, quiet, stepped, ran, works_in, NoCut}

@@ -1,6 +1,6 @@
 -- Paper 01: "At the end sectors q to 243 hold the image's bytes as accepted, then 0xFF; cleared sectors are erased; no other has changed."
 -- Written from the rules: nothing here speaks of stores.
-use Rattle.std.specs.Prelude.{ℕ, zero, suc, ◌+◌, ◌-◌, ◌*◌, List, [], ◌++◌, take, drop, replicate}
+use Rattle.std.specs.Prelude.{ℕ, zero, suc, ◌-◌, ◌*◌, List, [], ◌++◌, take, drop, replicate}
 use Rattle.basics.specs.Choice.{pick}
 use Rattle.sectors.specs.Sectors.{sector, erased}
 use Rattle.plan.specs.declared.Job.{Job}

@@ -12,7 +12,7 @@ use Rattle.device.specs.Types.{Device}
 use Rattle.device.specs.Modes.{is_idle, stack_runs}
 use Rattle.soundness.specs.Sound.{stack_sound, parts_sound, error_sound, mode_sound, head_sound, slot_test, slots_sound, loaded_sound, sound}
 use Rattle.soundness.proofs.Laws.{all_below_lem, each_below}
-use Rattle.soundness.proofs.Slots.{Slot, slot_of, slot_sound_lem, locked}
+use Rattle.soundness.proofs.Slots.{Slot, slot_of, slot_sound_lem}
 
 -- all that the head says but the pending error
 pub record Numbers (S top : ℕ) (h : Head) : Type 0 where

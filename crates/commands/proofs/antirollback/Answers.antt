@@ -1,7 +1,6 @@
 use Rattle.answer.specs.declared.Answer.TheVariants.{Accepted}
 use Rattle.device.specs.Layout.{decode, head_in}
 use Rattle.device.proofs.Laws.{kept, steps}
-use borrow.Author.Rules.{rules}
 use Rattle.commands.proofs.antirollback.Goals as goal
 
 pub returns-then-rollback : goal.returns-then-rollback

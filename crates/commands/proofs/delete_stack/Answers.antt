@@ -1,7 +1,6 @@
 use Rattle.device.specs.Layout.{decode, head_in}
 use Rattle.answer.specs.declared.Answer.TheVariants.{Accepted}
 use Rattle.device.proofs.Laws.{kept, steps}
-use borrow.Author.Rules.{rules}
 use Rattle.commands.proofs.delete_stack.Goals as goal
 
 pub returns-then-present : goal.returns-then-present

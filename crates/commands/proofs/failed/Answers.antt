@@ -1,6 +1,5 @@
 use Rattle.device.specs.Layout.{decode}
 use Rattle.device.proofs.Laws.{kept}
-use borrow.Author.Rules.{rules}
 use Rattle.commands.proofs.failed.Goals as goal
 
 pub returns : goal.returns

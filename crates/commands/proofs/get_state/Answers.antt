@@ -1,7 +1,6 @@
 use Rattle.basics.specs.Choice.{cases}
 use Rattle.device.specs.Layout.{decode, head_in}
 use Rattle.device.proofs.Laws.{told}
-use borrow.Author.Rules.{rules}
 use Rattle.commands.proofs.get_state.Goals as goal
 
 pub returns-then-error-eq0 : goal.returns-then-error-eq0

@@ -3,7 +3,6 @@ use Rattle.answer.specs.declared.Failure.TheVariants.{JobUnderWay}
 use Rattle.commands.specs.Commands.{job_under_way}
 use Rattle.device.specs.Layout.{decode, head_in}
 use Rattle.device.proofs.Laws.{kept, steps}
-use borrow.Author.Rules.{rules}
 use Rattle.commands.proofs.job_under_way.Goals as goal
 
 pub returns-then-is_get_state : goal.returns-then-is_get_state

@@ -1,7 +1,6 @@
 use Rattle.device.specs.Layout.{decode, head_in}
 use Rattle.answer.specs.declared.Answer.TheVariants.{Accepted}
 use Rattle.device.proofs.Laws.{kept, steps}
-use borrow.Author.Rules.{rules}
 use Rattle.commands.proofs.lock_auth.Goals as goal
 
 pub returns-then-authed : goal.returns-then-authed

@@ -4,7 +4,6 @@ use Rattle.commands.specs.Commands.{stack_running}
 use Rattle.device.specs.Layout.{decode, head_in}
 use Rattle.device.proofs.Records.{locks_length}
 use Rattle.device.proofs.Laws.{kept, dropped, steps}
-use borrow.Author.Rules.{rules}
 use Rattle.commands.proofs.stack_running.Goals as goal
 
 pub returns-then-not-is_get_state : goal.returns-then-not-is_get_state

@@ -2,7 +2,6 @@ use Rattle.answer.specs.declared.Answer.TheVariants.{Accepted}
 use Rattle.device.specs.Layout.{decode, head_in}
 use Rattle.device.proofs.Records.{locks_length}
 use Rattle.device.proofs.Laws.{dropped, steps}
-use borrow.Author.Rules.{rules}
 use Rattle.commands.proofs.start_stack.Goals as goal
 
 pub returns-then-present : goal.returns-then-present

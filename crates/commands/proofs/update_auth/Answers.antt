@@ -4,7 +4,6 @@ use Rattle.device.specs.Heads.{with_auth}
 use Rattle.device.specs.Steps.{accepted}
 use Rattle.device.specs.Layout.{decode, head_in}
 use Rattle.device.proofs.Laws.{finish, steps}
-use borrow.Author.Rules.{rules}
 use Rattle.commands.proofs.update_auth.Goals as goal
 
 pub returns-then-locked : goal.returns-then-locked

@@ -1,7 +1,6 @@
 use Rattle.answer.specs.declared.Answer.TheVariants.{Accepted}
 use Rattle.device.specs.Layout.{decode, head_in}
 use Rattle.device.proofs.Laws.{kept}
-use borrow.Author.Rules.{rules}
 use Rattle.commands.proofs.upgrade.Goals as goal
 
 pub returns-in-Good : goal.returns-in-Good

@@ -1,10 +1,9 @@
 use Rattle.basics.specs.Choice.{via_eq, via_ne}
 use Rattle.basics.specs.Words.{byte_at, word_at}
 use Rattle.decisions.specs.Decisions.{decided}
-use Rattle.device.specs.Layout.{decode, head_in, image_at, image_version_at, mode_at, recorded_at, size_at}
+use Rattle.device.specs.Layout.{head_in, image_at, image_version_at, mode_at, recorded_at, size_at}
 use Rattle.decisions.proofs.Laws.{situated_by}
 use Rattle.device.proofs.Laws.{yes_with, no_with}
-use borrow.Author.Rules.{rules}
 use Rattle.decisions.proofs.command.Goals as goal
 
 pub returns-in-0 : goal.returns-in-0

@@ -1,4 +1,4 @@
-use Rattle.std.proofs.Common.{◌*◌, ap, ◌∙◌, arith, length-drop, length-take, rules}
+use Rattle.std.proofs.Common.{◌*◌, ap, ◌∙◌, arith, length-drop, length-take}
 use Rattle.image.specs.Images.{judged}
 use Rattle.image.proofs.Laws.{from_there}
 use Rattle.image.proofs.Judging.{found_inside, checked_found, checked_none}

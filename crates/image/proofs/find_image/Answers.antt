@@ -1,5 +1,4 @@
-use Rattle.std.proofs.Common.{◌≡◌, ◌+◌, ◌-◌, ◌*◌, ◌≤◌, true, false, length, sym, refl, ◌∙◌, arith, rules}
-use Rattle.image.specs.Images.{find}
+use Rattle.std.proofs.Common.{◌≡◌, ◌+◌, ◌-◌, ◌*◌, true, false, sym, ◌∙◌, arith, rules}
 use Rattle.image.proofs.Laws.{last, starts_there, find_hit, find_miss, find_none}
 use Rattle.image.proofs.find_image.Goals as goal
 

@@ -1,6 +1,5 @@
-use Rattle.std.proofs.Common.{◌≡◌, ◌+◌, ◌-◌, ◌*◌, ◌≤◌, true, false, length, sym, refl, ◌∙◌, arith, rules}
+use Rattle.std.proofs.Common.{◌≡◌, ◌*◌, ◌≤◌, length}
 use Rattle.image.specs.Images.{find}
-use Rattle.image.proofs.Laws.{last, starts_there, find_hit, find_miss, find_none}
 use Rattle.image.proofs.find_image.Given as goal
 
 abbrev pub invariant-loop-t : goal.invariant-loop-t

@@ -1,5 +1,5 @@
-use Rattle.std.proofs.Common.{◌≡◌, ◌+◌, ◌-◌, ◌%◌, ◌^◌, ◌<◌, ◌≤◌, length, drop, arith, rules}
-use Rattle.image.specs.Sums.{total, sum_of}
+use Rattle.std.proofs.Common.{arith}
+use Rattle.image.specs.Sums.{sum_of}
 use Rattle.image.proofs.Laws.{total_word, total_rest}
 use Rattle.image.proofs.image_sum.Goals as goal
 

@@ -1,6 +1,5 @@
-use Rattle.std.proofs.Common.{◌≡◌, ◌+◌, ◌-◌, ◌%◌, ◌^◌, ◌<◌, ◌≤◌, length, drop, arith, rules}
-use Rattle.image.specs.Sums.{total, sum_of}
-use Rattle.image.proofs.Laws.{total_word, total_rest}
+use Rattle.std.proofs.Common.{◌≡◌, ◌+◌, ◌-◌, ◌%◌, ◌^◌, ◌<◌, ◌≤◌, length, drop}
+use Rattle.image.specs.Sums.{total}
 use Rattle.image.proofs.image_sum.Given as goal
 
 abbrev pub invariant-loop-i : goal.invariant-loop-i

@@ -1,7 +1,6 @@
-use Rattle.std.proofs.Common.{length, arith, rules}
 use Rattle.basics.specs.Choice.{yes_by, cases}
 use Rattle.image.specs.Images.{decided}
-use Rattle.image.proofs.Judging.{lawful_size, room, a_sector, judged_by}
+use Rattle.image.proofs.Judging.{judged_by}
 use Rattle.image.proofs.judge.Goals as goal
 
 pub returns-then-not-header_lawful : goal.returns-then-not-header_lawful

@@ -1,5 +1,4 @@
-use Rattle.std.proofs.Common.{◌≡◌, ◌-◌, ◌≤◌, length, drop, sym, refl, ◌∙◌, arith, rules}
-use Rattle.image.specs.Sums.{begins}
+use Rattle.std.proofs.Common.{sym, ◌∙◌, arith, rules}
 use Rattle.image.proofs.Laws.{begins_short, begins_no, begins_on, begins_all}
 use Rattle.image.proofs.starts.Goals as goal
 

@@ -1,6 +1,5 @@
-use Rattle.std.proofs.Common.{◌≡◌, ◌-◌, ◌≤◌, length, drop, sym, refl, ◌∙◌, arith, rules}
+use Rattle.std.proofs.Common.{◌≡◌, ◌-◌, ◌≤◌, length, drop}
 use Rattle.image.specs.Sums.{begins}
-use Rattle.image.proofs.Laws.{begins_short, begins_no, begins_on, begins_all}
 use Rattle.image.proofs.starts.Given as goal
 
 abbrev pub invariant-loop-i : goal.invariant-loop-i

@@ -1,6 +1,5 @@
 use mathlib.Core.Path.{refl}
 use Rattle.plan.specs.Stores.{onward, left_at}
-use borrow.Author.Rules.{rules}
 use Rattle.jobs.proofs.advance.Goals as goal
 
 pub returns-in-Erase : goal.returns-in-Erase

@@ -9,7 +9,6 @@ use Rattle.jobs.specs.Jobs.{progressed}
 use Rattle.jobs.proofs.Turns.{recorded_few}
 use Rattle.device.specs.Layout.{head_in, encode, decode}
 use Rattle.jobs.proofs.Bytes.{job_recorded}
-use borrow.Author.Rules.{rules}
 use Rattle.jobs.proofs.break_off.Goals as goal
 
 pub overflow_add-recorded : goal.overflow_add-recorded

@@ -1,18 +1,16 @@
 use Prim.Native.Nat.{ℕ, ◌-◌}
 use mathlib.Core.Path.{◌≡◌, ◌∙◌, ap, sym}
-use mathlib.Core.Bool.{true, false}
-use native.Mathlib.Omega.{arith}
+use mathlib.Core.Bool.{true}
 use Rattle.basics.specs.Choice.{pick}
 use Rattle.basics.specs.Words.{byte_at, word_at}
 use Rattle.sectors.specs.Sectors.{sectors_for}
 use Rattle.device.specs.declared.Head.{Head}
-use Rattle.device.specs.declared.Mode.TheVariants.{Stack, Idle}
+use Rattle.device.specs.declared.Mode.TheVariants.{Stack}
 use Rattle.device.specs.Whole.{with_head}
 use Rattle.device.specs.Heads.{with_stack}
 use Rattle.jobs.specs.Jobs.{committed}
 use Rattle.device.specs.Layout.{head_in, encode, decode, image_at, image_version_at, mode_at, recorded_at, size_at}
 use Rattle.jobs.proofs.Bytes.{upgraded_by, deleted_by, job_low}
-use borrow.Author.Rules.{rules}
 use Rattle.jobs.proofs.commit.Goals as goal
 
 pub overflow_sub-top : goal.overflow_sub-top

@@ -1,6 +1,5 @@
 use Rattle.device.specs.Layout.{decode}
 use Rattle.device.proofs.Records.{locks_length}
-use borrow.Author.Rules.{rules}
 use Rattle.jobs.proofs.finish.Goals as goal
 
 pub returns : goal.returns

@@ -1,7 +1,6 @@
 use Rattle.device.specs.Layout.{boundary_at, image_at, image_version_at, mode_at, recorded_at, size_at}
 use Rattle.basics.specs.Words.{byte_at, word_at}
 use Rattle.jobs.proofs.Bytes.{job_by, image_in}
-use borrow.Author.Rules.{rules}
 use Rattle.jobs.proofs.job_in.Goals as goal
 
 pub returns : goal.returns

@@ -1,5 +1,4 @@
 use Rattle.device.specs.Layout.{head_in}
-use borrow.Author.Rules.{rules}
 use Rattle.jobs.proofs.left.Goals as goal
 
 pub left-requires : goal.left-requires

@@ -1,5 +1,4 @@
-use mathlib.Core.Path.{◌≡◌, ◌∙◌, ap}
-use mathlib.Core.Bool.{true, false}
+use mathlib.Core.Path.{◌≡◌, ap}
 use Prim.Native.Nat.{ℕ}
 use Rattle.basics.specs.Words.{byte_at, word_at}
 use Rattle.plan.specs.Stores as Stores
@@ -7,7 +6,6 @@ use Rattle.soundness.specs.Sound.{plan_for}
 use Rattle.device.specs.Modes.{recorded_in}
 use Rattle.device.specs.Layout.{head_in, mode_in, image_at, image_version_at, made_at, mode_at, recorded_at, size_at}
 use Rattle.jobs.proofs.Bytes.{recorded_by}
-use borrow.Author.Rules.{rules}
 use Rattle.jobs.proofs.next.Goals as goal
 
 pub next-requires : goal.next-requires

@@ -1,8 +1,6 @@
-use mathlib.Core.Path.{◌≡◌, ◌∙◌, ap}
-use mathlib.Core.Bool.{true, false}
+use mathlib.Core.Path.{◌∙◌}
 use Rattle.device.specs.Layout.{decode}
 use Rattle.jobs.proofs.Bytes.{still}
-use borrow.Author.Rules.{rules}
 use Rattle.jobs.proofs.put_made.Goals as goal
 
 pub returns : goal.returns

@@ -1,5 +1,4 @@
 use Rattle.device.specs.Layout.{decode}
-use borrow.Author.Rules.{rules}
 use Rattle.jobs.proofs.put_recorded.Goals as goal
 
 pub returns : goal.returns

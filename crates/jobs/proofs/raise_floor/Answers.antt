@@ -5,7 +5,6 @@ use Rattle.basics.specs.Choice.{via}
 use Rattle.basics.specs.Words.{byte_at}
 use Rattle.device.specs.Layout.{encode, rollback_at}
 use Rattle.jobs.proofs.Bytes.{floor_on, floor_off}
-use borrow.Author.Rules.{rules}
 use Rattle.jobs.proofs.raise_floor.Goals as goal
 
 pub returns-then-rollback : goal.returns-then-rollback

@@ -2,7 +2,6 @@ use Rattle.answer.specs.declared.Answer.TheVariants.{Accepted}
 use Rattle.keys.specs.Keys.{load_key}
 use Rattle.device.specs.Layout.{decode, head_in}
 use Rattle.device.proofs.Laws.{kept, steps}
-use borrow.Author.Rules.{rules}
 use Rattle.keys.proofs.load_key.Goals as goal
 
 pub returns-then-not-stored : goal.returns-then-not-stored

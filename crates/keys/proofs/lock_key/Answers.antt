@@ -1,7 +1,6 @@
 use Rattle.answer.specs.declared.Answer.TheVariants.{Accepted}
-use Rattle.device.specs.Layout.{decode, head_in}
+use Rattle.device.specs.Layout.{decode}
 use Rattle.device.proofs.Laws.{locked, steps}
-use borrow.Author.Rules.{rules}
 use Rattle.keys.proofs.lock_key.Goals as goal
 
 pub returns-then-stored : goal.returns-then-stored

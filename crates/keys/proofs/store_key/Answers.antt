@@ -1,15 +1,12 @@
 use Rattle.answer.specs.declared.Answer.TheVariants.{Stored}
 use Rattle.device.specs.Types.{Put}
-use native.Mathlib.Omega.{arith}
 use Prim.Native.Nat.{◌+◌}
-use Rattle.basics.specs.Choice.{via_not_false, cases}
+use Rattle.basics.specs.Choice.{cases}
 use Rattle.device.specs.Heads.{with_count}
 use Rattle.device.specs.Steps.{accepted}
 use Rattle.keys.specs.Keys.{store_key}
 use Rattle.device.specs.Layout.{decode, head_in}
-use Rattle.keys.proofs.Laws.{small}
 use Rattle.device.proofs.Laws.{finish, with_key_lem, yes_with, no_with, steps}
-use borrow.Author.Rules.{rules}
 use Rattle.keys.proofs.store_key.Goals as goal
 
 pub returns-then-not-type_lawful : goal.returns-then-not-type_lawful

@@ -1,5 +1,4 @@
-use Rattle.device.specs.Layout.{decode, head_in}
-use borrow.Author.Rules.{rules}
+use Rattle.device.specs.Layout.{head_in}
 use Rattle.keys.proofs.stored.Goals as goal
 
 pub returns : goal.returns

@@ -1,7 +1,6 @@
 use Rattle.answer.specs.declared.Answer.TheVariants.{Accepted}
 use Rattle.device.specs.Layout.{decode, head_in}
 use Rattle.device.proofs.Laws.{kept, steps}
-use borrow.Author.Rules.{rules}
 use Rattle.keys.proofs.unload_key.Goals as goal
 
 pub returns-then-index-loaded : goal.returns-then-index-loaded

@@ -2,7 +2,6 @@ use Rattle.basics.specs.Choice.{cases}
 use lib.ListN.{length}
 use Rattle.leaves.specs.Leaves.{copy_of}
 use Rattle.leaves.proofs.Laws.{copies_inside}
-use borrow.Author.Rules.{rules}
 use Rattle.leaves.proofs.leaves_copy.Goals as goal
 
 pub copy-requires : goal.copy-requires

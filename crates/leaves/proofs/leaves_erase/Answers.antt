@@ -4,7 +4,6 @@ use borrow.Author.Tests.{lt-ltb, le-ltb}
 use Rattle.basics.specs.Choice.{yes_by, no_by}
 use Rattle.leaves.specs.Leaves.{erase_of}
 use Rattle.leaves.proofs.Laws.{sector_inside}
-use borrow.Author.Rules.{rules}
 use Rattle.leaves.proofs.leaves_erase.Goals as goal
 
 pub erase-requires : goal.erase-requires

@@ -3,7 +3,6 @@ use lib.ListN.{length}
 use Rattle.basics.specs.Choice.{yes_by, cases}
 use Rattle.leaves.specs.Leaves.{sector_or, search_of}
 use Rattle.leaves.proofs.Laws.{searches_inside}
-use borrow.Author.Rules.{rules}
 use Rattle.leaves.proofs.leaves_search.Goals as goal
 
 pub returns-then-not-may_search : goal.returns-then-not-may_search

@@ -1,6 +1,5 @@
 use Rattle.basics.specs.Choice.{cases}
 use Rattle.leaves.specs.Leaves.{held}
-use borrow.Author.Rules.{rules}
 use Rattle.leaves.proofs.sectors_in.Goals as goal
 
 pub returns-then-size-eq0 : goal.returns-then-size-eq0

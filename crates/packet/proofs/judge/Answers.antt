@@ -1,4 +1,3 @@
-use borrow.Author.Rules.{rules}
 use Rattle.basics.specs.Choice.{cases}
 use Rattle.packet.proofs.judge.Goals as goal
 

@@ -1,5 +1,3 @@
-use native.Mathlib.Omega.{arith}
-use borrow.Author.Rules.{rules}
 use Rattle.basics.specs.Choice.{cases}
 use Rattle.packet.specs.Packets.{read_of}
 use Rattle.packet.proofs.read.Goals as goal

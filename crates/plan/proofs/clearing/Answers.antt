@@ -1,4 +1,3 @@
-use borrow.Author.Rules.{rules}
 use Rattle.plan.proofs.Chosen.{image_at_lem, stack_at}
 use Rattle.plan.proofs.clearing.Goals as goal
 

@@ -1,4 +1,3 @@
-use borrow.Author.Rules.{rules}
 use mathlib.Core.Path.{◌∙◌, sym}
 use Rattle.plan.specs.Stores.{plan_of}
 use Rattle.plan.proofs.Chosen.{next_last, next_erase, next_write, next_cleared, next_copied, steps_are}
@@ -8,7 +7,7 @@ pub returns-then-moved-cleared_count : goal.returns-then-moved-cleared_count
 returns-then-moved-cleared_count c = sym (next_last _ _ _ (rw (steps_are _ _ _ c.blocks-moved.ensures c.cleared_count.ensures) at c.if-moved-cleared_count.true))
 
 pub target-requires : goal.target-requires
-target-requires c =  record {
+target-requires c = record {
   able = c.requires.able;
   in_range = c.requires.in_range;
   step_bound = rw (steps_are _ _ _ c.blocks-moved.ensures c.cleared_count.ensures) at c.if-moved-cleared_count.false;

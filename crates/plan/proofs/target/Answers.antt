@@ -7,7 +7,7 @@ pub returns-then-step-b : goal.returns-then-step-b
 returns-then-step-b c = copy_at _ _ _ _ _ c.blocks-b.ensures c.if-step-b.true
 
 pub clearing-requires : goal.clearing-requires
-clearing-requires c =  record {
+clearing-requires c = record {
   in_range = search rules;
   index_bound = index_low _ _ _ _ _ c.blocks-b.ensures c.if-step-b.false c.requires.step_bound;
 }

@@ -1,11 +1,8 @@
-use Prim.Native.Nat.{◌-◌, ◌<◌, ◌≤◌}
-use mathlib.Core.Path.{◌≡◌, refl}
-use mathlib.Core.List.{◌++◌, append-nil}
+use mathlib.Core.Path.{◌≡◌}
+use mathlib.Core.List.{append-nil}
 use native.Mathlib.Omega.{arith}
-use lib.ListN.{length, drop, replicate, length-set}
+use lib.ListN.{length}
 use lib.Seq.{drop-length}
-use borrow.Author.Fill.{fill_more}
-use borrow.Author.Rules.{rules}
 use Rattle.basics.specs.Words.{zeros}
 use Rattle.reply.proofs.clear.Goals as goal
 

@@ -1,12 +1,7 @@
-use Prim.Native.Nat.{◌-◌, ◌<◌, ◌≤◌}
-use mathlib.Core.Path.{◌≡◌, refl}
-use mathlib.Core.List.{◌++◌, append-nil}
-use native.Mathlib.Omega.{arith}
-use lib.ListN.{length, drop, replicate, length-set}
-use lib.Seq.{drop-length}
-use borrow.Author.Fill.{fill_more}
-use borrow.Author.Rules.{rules}
-use Rattle.basics.specs.Words.{zeros}
+use Prim.Native.Nat.{◌-◌, ◌≤◌}
+use mathlib.Core.Path.{◌≡◌}
+use mathlib.Core.List.{◌++◌}
+use lib.ListN.{length, drop, replicate}
 use Rattle.reply.proofs.clear.Given as goal
 
 abbrev pub invariant-loop-i : goal.invariant-loop-i

@@ -1,7 +1,6 @@
 use Prim.Native.Nat.{◌≤◌, ◌<◌}
 use native.Mathlib.Omega.{arith}
 use lib.ListN.{length}
-use borrow.Author.Rules.{rules}
 use Rattle.basics.specs.Choice.{cases}
 use Rattle.reply.specs.Replies.{replied}
 use Rattle.reply.proofs.Laws.{over_zeros}

@@ -1,5 +1,4 @@
 use Rattle.sectors.proofs.Lent.{blank_back}
-use borrow.Author.Rules.{rules}
 use Rattle.sectors.proofs.blank.Goals as goal
 
 pub returns : goal.returns

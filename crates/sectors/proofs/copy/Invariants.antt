@@ -1,10 +1,8 @@
-use mathlib.Core.Path.{◌≡◌, refl}
-use Prim.Native.Nat.{◌≤◌, ◌+◌, ◌-◌}
-use native.Mathlib.Omega.{arith}
+use mathlib.Core.Path.{◌≡◌}
+use Prim.Native.Nat.{◌≤◌, ◌-◌}
 use lib.ListN.{length}
 use Rattle.sectors.specs.Sectors.{sector, put_sector}
-use Rattle.sectors.proofs.Lent.{over, some_none, some_more, some_all}
-use borrow.Author.Rules.{rules}
+use Rattle.sectors.proofs.Lent.{over}
 use Rattle.sectors.proofs.copy.Given as goal
 
 abbrev pub invariant-loop-at : goal.invariant-loop-at

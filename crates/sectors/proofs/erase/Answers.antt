@@ -1,5 +1,4 @@
 use Rattle.sectors.proofs.Lent.{erased_back}
-use borrow.Author.Rules.{rules}
 use Rattle.sectors.proofs.erase.Goals as goal
 
 pub returns : goal.returns

@@ -1,5 +1,4 @@
 use Rattle.sectors.proofs.Lent.{filled_back}
-use borrow.Author.Rules.{rules}
 use Rattle.sectors.proofs.spoil.Goals as goal
 
 pub returns : goal.returns

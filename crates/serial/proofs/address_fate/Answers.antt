@@ -1,6 +1,5 @@
 use Rattle.basics.specs.Choice.{cases}
 use Rattle.serial.specs.Line.{address_fate}
-use borrow.Author.Rules.{rules}
 use Rattle.serial.proofs.address_fate.Goals as goal
 
 pub returns-then-n-lt8 : goal.returns-then-n-lt8

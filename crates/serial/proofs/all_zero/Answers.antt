@@ -1,9 +1,7 @@
-use Prim.Native.Nat.{◌<◌, ◌≤◌, ◌-◌, suc}
+use Prim.Native.Nat.{◌<◌, ◌-◌, suc}
 use mathlib.Core.Path.{◌≡◌}
 use native.Mathlib.Omega.{arith}
-use lib.ListN.{length, drop}
-use borrow.Author.Rules.{rules}
-use Rattle.serial.specs.InPlace.{all_zero}
+use lib.ListN.{length}
 use Rattle.serial.proofs.Laws.{zero_none, zero_more}
 use Rattle.serial.proofs.all_zero.Goals as goal
 

@@ -1,10 +1,7 @@
-use Prim.Native.Nat.{◌<◌, ◌≤◌, ◌-◌, suc}
+use Prim.Native.Nat.{◌≤◌}
 use mathlib.Core.Path.{◌≡◌}
-use native.Mathlib.Omega.{arith}
 use lib.ListN.{length, drop}
-use borrow.Author.Rules.{rules}
 use Rattle.serial.specs.InPlace.{all_zero}
-use Rattle.serial.proofs.Laws.{zero_none, zero_more}
 use Rattle.serial.proofs.all_zero.Given as goal
 
 abbrev pub invariant-loop-i : goal.invariant-loop-i

@@ -4,7 +4,6 @@ use mathlib.Core.Path.{sym, ◌∙◌}
 use Rattle.services.specs.Calls.{first}
 use Rattle.serial.proofs.Readers.{filled}
 use Rattle.serial.proofs.Outcomes.{short_placed, unread_placed, fits_in, sent_ten, byte_placed}
-use borrow.Author.Rules.{rules}
 use Rattle.serial.proofs.byte.Goals as goal
 
 pub returns-then-out-lt10 : goal.returns-then-out-lt10

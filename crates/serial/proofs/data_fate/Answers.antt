@@ -7,7 +7,6 @@ use lib.ListN.{length}
 use borrow.Author.Tests.{le-ltb}
 use Rattle.basics.specs.Choice.{cases}
 use Rattle.serial.specs.Line.{size_in, data_fate}
-use borrow.Author.Rules.{rules}
 use Rattle.serial.proofs.data_fate.Goals as goal
 
 pub returns-then-n-lt11 : goal.returns-then-n-lt11

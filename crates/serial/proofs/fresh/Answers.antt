@@ -5,7 +5,6 @@ use borrow.Author.Tests.{eq-eqb}
 use Rattle.basics.specs.Choice.{pick, cases}
 use Rattle.serial.specs.InPlace.{fresh_in_place, reader_bytes}
 use Rattle.basics.specs.Words.{zeros}
-use borrow.Author.Rules.{rules}
 use Rattle.serial.proofs.fresh.Goals as goal
 
 pub returns-then-reader-ne-LENGTH : goal.returns-then-reader-ne-LENGTH

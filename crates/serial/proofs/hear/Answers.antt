@@ -3,12 +3,11 @@ use mathlib.Core.Path.{◌≡◌, ap, sym, ◌∙◌}
 use native.Mathlib.Omega.{arith}
 use Rattle.basics.specs.Words.{byte_at, zeros}
 use Rattle.services.specs.Calls.{first}
-use Rattle.serial.specs.declared.Fate.TheVariants.{More, Right, Whole, Wrong}
+use Rattle.serial.specs.declared.Fate.TheVariants.{Wrong}
 use Rattle.serial.specs.Line.{judged}
 use Rattle.serial.specs.InPlace.{received_in}
 use Rattle.serial.proofs.Readers.{filled_length, filled_count}
-use Rattle.serial.proofs.Outcomes.{more_told, right_told, wrong_told}
-use borrow.Author.Rules.{rules}
+use Rattle.serial.proofs.Outcomes.{wrong_told}
 use Rattle.serial.proofs.hear.Goals as goal
 
 pub bounds-reader-0 : goal.bounds-reader-0

@@ -1,6 +1,4 @@
-use native.Mathlib.Omega.{arith}
 use Rattle.serial.specs.Line.{is_open}
-use borrow.Author.Rules.{rules}
 use Rattle.serial.proofs.is_open.Goals as goal
 
 pub returns : goal.returns

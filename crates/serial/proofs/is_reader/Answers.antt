@@ -5,7 +5,6 @@ use Rattle.basics.specs.Words.{byte_at}
 use native.Mathlib.Omega.{arith}
 use Rattle.basics.specs.Choice.{cases}
 use Rattle.serial.specs.InPlace.{is_reader}
-use borrow.Author.Rules.{rules}
 use Rattle.serial.proofs.Readers.{reader_test}
 use Rattle.serial.proofs.is_reader.Goals as goal
 

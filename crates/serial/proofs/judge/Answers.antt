@@ -1,6 +1,5 @@
 use Rattle.basics.specs.Choice.{cases}
 use Rattle.serial.specs.Line.{judged}
-use borrow.Author.Rules.{rules}
 use Rattle.serial.proofs.judge.Goals as goal
 
 pub returns-then-n-lt7 : goal.returns-then-n-lt7

@@ -1,7 +1,6 @@
 use Rattle.basics.specs.Choice.{cases}
 use Rattle.device.specs.Layout.{head_in}
 use Rattle.serial.specs.Responses.{peek}
-use borrow.Author.Rules.{rules}
 use Rattle.serial.proofs.look_ahead.Goals as goal
 
 pub returns-then-stack_runs : goal.returns-then-stack_runs

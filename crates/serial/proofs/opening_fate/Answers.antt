@@ -1,6 +1,5 @@
 use Rattle.basics.specs.Choice.{cases}
 use Rattle.serial.specs.Line.{opening_fate}
-use borrow.Author.Rules.{rules}
 use Rattle.serial.proofs.opening_fate.Goals as goal
 
 pub returns-then-n-lt2 : goal.returns-then-n-lt2

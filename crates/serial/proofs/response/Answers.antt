@@ -2,7 +2,6 @@ use borrow.Author.Tests.{eq-eqb, ne_eqb}
 use Rattle.basics.specs.Choice.{pick, via_eq, via_ne}
 use Rattle.serial.specs.Responses.{response}
 use Rattle.basics.specs.Words.{zeros}
-use borrow.Author.Rules.{rules}
 use Rattle.serial.proofs.response.Goals as goal
 
 pub returns-then-opcode : goal.returns-then-opcode

@@ -2,7 +2,6 @@ use Prim.Native.Nat.{◌+◌}
 use native.Mathlib.Omega.{arith}
 use lib.ListN.{length-set}
 use Rattle.basics.specs.Words.{byte_at}
-use borrow.Author.Rules.{rules}
 use Rattle.serial.proofs.Readers.{reader, taken_in}
 use Rattle.serial.proofs.take_in.Goals as goal
 

@@ -6,7 +6,6 @@ use Rattle.services.specs.Calls.{first}
 use Rattle.services.specs.InPlace.{HandlePlaced}
 use Rattle.serial.proofs.Readers.{filled_length}
 use Rattle.serial.proofs.Outcomes.{taken_length, whole_told}
-use borrow.Author.Rules.{rules}
 use Rattle.serial.proofs.whole.Goals as goal
 
 pub slice_bounds-handle-end : goal.slice_bounds-handle-end

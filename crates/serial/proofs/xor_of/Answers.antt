@@ -1,9 +1,7 @@
-use Prim.Native.Nat.{◌<◌, ◌≤◌, ◌-◌, suc}
+use Prim.Native.Nat.{◌<◌, ◌-◌, suc}
 use mathlib.Core.Path.{◌≡◌}
 use native.Mathlib.Omega.{arith}
-use lib.ListN.{length, drop}
-use borrow.Author.Rules.{rules}
-use Rattle.serial.specs.Line.{xor_of}
+use lib.ListN.{length}
 use Rattle.serial.proofs.Laws.{xor_none, xor_more}
 use Rattle.serial.proofs.xor_of.Goals as goal
 

@@ -1,18 +1,17 @@
 use Rattle.services.proofs.Laws.{boundary_low, erasable, auth_bytes}
 use Rattle.device.specs.Layout.{decode}
 use Rattle.services.proofs.Outcomes.{answer_of_lem, bytes_of}
-use borrow.Author.Rules.{rules}
 use Rattle.services.proofs.answer_to.Goals as goal
 
 pub look_for-checked-requires : goal.look_for-checked-requires
-look_for-checked-requires c =  record {
+look_for-checked-requires c = record {
   sensible = c.requires.sensible;
   rec_len = c.requires.held.size;
   rec_bound = (boundary_low _ _ _ c.requires.taking.record_sound, c.requires.taking.lent_flash);
 }
 
 pub command-answer-requires : goal.command-answer-requires
-command-answer-requires c =  record {
+command-answer-requires c = record {
   held = c.requires.held;
   key_len = λ u. rw c.key_in.ensures (auth_bytes _ _ _ c.requires.taking.bytes c.requires.taking.reading u);
 }

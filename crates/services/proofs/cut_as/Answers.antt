@@ -12,10 +12,8 @@ use Rattle.services.specs.Calls.{lent, gated}
 use Rattle.services.specs.InPlace.{sound_for}
 use Rattle.services.proofs.Gated.{opens}
 use Rattle.services.proofs.Outcomes.{held_in, cut_open, cut_shut}
-use Rattle.services.proofs.Laws.{few_bytes}
 use Rattle.device.proofs.Records.{locks_length}
 use Rattle.basics.specs.Choice.{pick, via}
-use borrow.Author.Rules.{rules}
 use Rattle.services.proofs.cut_as.Goals as goal
 
 pub has_job-requires : goal.has_job-requires
@@ -30,11 +28,11 @@ cut_on-requires c =
     let b : Bytes c.args.rec.now = λ i. omega (arith, c.slice_known-1.given i) in
     let e : gated (sound_for c.args.k c.args.rec.now) (lent c.args.k c.args.flash.now) (leb 6 (length c.args.event.now)) (eqb (length c.args.filler.now) c.args.k.size) ≡ Taken = rw c.is_sound-sound.ensures at (sym c.gate-verdict.ensures ∙ c.in-Taken.is) in
     let o = opens _ _ _ _ e in
-     record {
-  sensible = c.requires;
-  rec_value = (o.whole, eqb-true _ _ o.length);
-  rec_value_2 = (via _ _ _ c.has_job.ensures c.if-has_job.true, eqb-true _ _ o.filler);
-}
+    record {
+      sensible = c.requires;
+      rec_value = (o.whole, eqb-true _ _ o.length);
+      rec_value_2 = (via _ _ _ c.has_job.ensures c.if-has_job.true, eqb-true _ _ o.filler);
+    }
 
 pub start-requires : goal.start-requires
 start-requires c =

@@ -23,10 +23,10 @@ pub cut-requires : goal.cut-requires
 unfolding decode
 cut-requires c =
     let doing-it = doing c.args.k (decode c.args.rec.now) c.requires.sensible (sound_in c.args.k c.args.rec.now c.requires.rec_value.0) c.requires.rec_value_2.0 in
-     record {
-  within = rw c.next-store.ensures (within doing-it c.args.k.count c.args.flash.now c.requires.sensible.below c.requires.rec_value.1);
-  filler_len = c.requires.rec_value_2.1;
-}
+    record {
+      within = rw c.next-store.ensures (within doing-it c.args.k.count c.args.flash.now c.requires.sensible.below c.requires.rec_value.1);
+      filler_len = c.requires.rec_value_2.1;
+    }
 
 pub start-requires : goal.start-requires
 start-requires c = let z = record_length_lem _ _ _ c.requires.rec_value.0 in search rules

@@ -1,6 +1,5 @@
 use Rattle.services.specs.InPlace.{fresh_in_place}
 use Rattle.basics.specs.Choice.{pick, cases}
-use borrow.Author.Rules.{rules}
 use Rattle.services.proofs.fresh.Goals as goal
 
 pub returns-then-rec-ne-LENGTH : goal.returns-then-rec-ne-LENGTH

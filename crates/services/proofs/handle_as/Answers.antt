@@ -9,28 +9,26 @@ use Rattle.device.specs.Layout.{decode, Bytes}
 use Rattle.services.specs.declared.Verdict.TheVariants.{Taken, Refused}
 use Rattle.services.specs.Calls.{lent, gated, by_reading}
 use Rattle.services.specs.InPlace.{handle_in_bytes, sound_for}
-use Rattle.services.proofs.Laws.{few_bytes}
 use Rattle.services.proofs.Gated.{opens}
 use Rattle.services.proofs.Outcomes.{sound_in, held_in, refused_in, handled_open, handled_shut}
-use borrow.Author.Rules.{rules}
 use Rattle.services.proofs.handle_as.Goals as goal
 
 pub answer_to-requires : goal.answer_to-requires
 answer_to-requires c =
     let b : Bytes c.args.rec.now = λ i. omega (arith, c.slice_known-1.given i) in
     let e : gated (sound_for c.args.k c.args.rec.now) (lent c.args.k c.args.flash.now) (leb 8 (length c.args.reply.now)) true ≡ Taken = rw c.is_sound-sound.ensures at (sym c.gate-verdict.ensures ∙ c.in-Taken.is) in
-    let o = opens _ _ _ _ e in  record {
-  sensible = c.requires;
-  held = held_in c.args.k c.args.rec.now o.whole b;
-  taking = record {
-          record_sound = sound_in c.args.k c.args.rec.now o.whole;
-          lent_flash = eqb-true _ _ o.length;
-          fitting = leb-true _ _ o.room;
-          bytes = λ i. omega (arith, c.type_inv.packet i);
-          payload = _;
-          reading = sym c.read-reading.ensures ∙ c.in-Lawful.is;
-        };
-}
+    let o = opens _ _ _ _ e in record {
+      sensible = c.requires;
+      held = held_in c.args.k c.args.rec.now o.whole b;
+      taking = record {
+        record_sound = sound_in c.args.k c.args.rec.now o.whole;
+        lent_flash = eqb-true _ _ o.length;
+        fitting = leb-true _ _ o.room;
+        bytes = λ i. omega (arith, c.type_inv.packet i);
+        payload = _;
+        reading = sym c.read-reading.ensures ∙ c.in-Lawful.is;
+      };
+    }
 
 pub returns-in-Lawful : goal.returns-in-Lawful
 returns-in-Lawful c =

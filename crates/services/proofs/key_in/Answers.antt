@@ -1,7 +1,6 @@
 use Rattle.services.proofs.Laws.{past_end}
 use Rattle.image.proofs.Laws.{from_there}
 use Rattle.basics.specs.Choice.{cases}
-use borrow.Author.Rules.{rules}
 use Rattle.services.proofs.key_in.Goals as goal
 
 pub returns-then-n-ge5 : goal.returns-then-n-ge5

@@ -2,7 +2,6 @@ use Rattle.services.proofs.Laws.{below_boundary}
 use Rattle.device.specs.Layout.{head_in, decode}
 use Rattle.basics.specs.Choice.{cases}
 use native.Mathlib.Omega.{arith}
-use borrow.Author.Rules.{rules}
 use Rattle.services.proofs.look_for.Goals as goal
 
 pub check-requires : goal.check-requires

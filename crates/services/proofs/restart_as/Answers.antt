@@ -11,7 +11,6 @@ use Rattle.services.specs.InPlace.{sound_for}
 use Rattle.services.proofs.Gated.{opens}
 use Rattle.services.proofs.Outcomes.{held_in, restarted_open, restarted_shut}
 use Rattle.device.proofs.Records.{locks_length}
-use borrow.Author.Rules.{rules}
 use Rattle.services.proofs.restart_as.Goals as goal
 
 pub start-requires : goal.start-requires

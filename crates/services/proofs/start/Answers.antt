@@ -1,9 +1,8 @@
 use Rattle.device.proofs.Stored.{runs_of}
-use borrow.Author.Rules.{rules}
 use Rattle.services.proofs.start.Goals as goal
 
 pub returns : goal.returns
-returns c =  record {
+returns c = record {
   loses = c.lose.ensures;
   event_after = λ d e. rw (c.write_event.ensures.buffer_after, c.stack_runs.ensures, runs_of d _ e);
 }

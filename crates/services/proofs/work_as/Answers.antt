@@ -1,7 +1,6 @@
 use mathlib.Core.Path.{◌≡◌, sym, ◌∙◌}
 use mathlib.Core.Bool.{true, false}
 use native.Mathlib.Omega.{arith}
-use lib.ListN.{length}
 use borrow.Author.Tests.{eqb-true}
 use Rattle.device.specs.Layout.{head_in, decode, Bytes}
 use Rattle.device.specs.Modes.{has_job}
@@ -11,9 +10,7 @@ use Rattle.services.specs.Calls.{lent, gated}
 use Rattle.services.specs.InPlace.{sound_for}
 use Rattle.services.proofs.Gated.{opens}
 use Rattle.services.proofs.Outcomes.{unchanged, worked_open, worked_shut}
-use Rattle.services.proofs.Laws.{few_bytes}
 use Rattle.basics.specs.Choice.{pick, via}
-use borrow.Author.Rules.{rules}
 use Rattle.services.proofs.work_as.Goals as goal
 
 pub has_job-requires : goal.has_job-requires
@@ -27,11 +24,11 @@ unfolding decode head_in
 work_on-requires c =
     let b : Bytes c.args.rec.now = λ i. omega (arith, c.slice_known-1.given i) in
     let e : gated (sound_for c.args.k c.args.rec.now) (lent c.args.k c.args.flash.now) true true ≡ Taken = rw c.is_sound-sound.ensures at (sym c.gate-verdict.ensures ∙ c.in-Taken.is) in
-    let o = opens _ _ _ _ e in  record {
-  sensible = c.requires;
-  rec_value = (o.whole, eqb-true _ _ o.length);
-  rec_value_2 = via _ _ _ c.has_job.ensures c.if-has_job.true;
-}
+    let o = opens _ _ _ _ e in record {
+      sensible = c.requires;
+      rec_value = (o.whole, eqb-true _ _ o.length);
+      rec_value_2 = via _ _ _ c.has_job.ensures c.if-has_job.true;
+    }
 
 pub returns-then-has_job : goal.returns-then-has_job
 unfolding decode head_in pick

@@ -5,7 +5,6 @@ use Rattle.device.specs.Modes.{recorded_in}
 use Rattle.jobs.proofs.Turns.{within}
 use Rattle.device.specs.Layout.{head_in, decode}
 use Rattle.services.proofs.Outcomes.{few_at, sound_in, on_job}
-use borrow.Author.Rules.{rules}
 use Rattle.services.proofs.work_on.Goals as goal
 
 pub next-store-requires : goal.next-store-requires

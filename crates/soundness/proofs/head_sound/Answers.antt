@@ -1,4 +1,3 @@
-use borrow.Author.Rules.{rules}
 use Rattle.soundness.specs.Sound.{head_sound}
 use Rattle.soundness.proofs.head_sound.Goals as goal
 

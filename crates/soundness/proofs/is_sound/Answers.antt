@@ -6,7 +6,6 @@ use borrow.Author.Tests.{eq-eqb, ne_eqb}
 use Rattle.basics.specs.Choice.{via}
 use Rattle.device.specs.Layout.{record_length, is_head, head_in, decode}
 use Rattle.soundness.specs.Sound.{head_sound, sound, sound_record}
-use borrow.Author.Rules.{rules}
 use Rattle.soundness.proofs.is_sound.Goals as goal
 
 pub returns-then-rec-ne-LENGTH : goal.returns-then-rec-ne-LENGTH

@@ -1,11 +1,9 @@
 use borrow.Author.Rules.{rules}
-use Prim.Native.Nat.{◌*◌, ◌-◌, ◌≤◌}
-use mathlib.Core.Path.{◌≡◌, sym}
+use mathlib.Core.Path.{sym}
 use native.Mathlib.Omega.{arith}
 use native.Mathlib.Numerals.{add-one}
 use borrow.Author.Tests.{le-ltb}
-use lib.ListN.{length}
-use Rattle.soundness.specs.Sound.{all_below, place_test}
+use Rattle.soundness.specs.Sound.{all_below}
 use Rattle.soundness.proofs.Runs.{places_start, twice_below}
 use Rattle.soundness.proofs.places_in.Goals as goal
 

@@ -1,5 +1,4 @@
 use Rattle.plan.specs.Stores.{plan_of, wants}
-use borrow.Author.Rules.{rules}
 use Rattle.soundness.proofs.progress_sound.Goals as goal
 
 pub returns : goal.returns

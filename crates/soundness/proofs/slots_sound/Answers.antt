@@ -1,5 +1,4 @@
 use native.Mathlib.Omega.{arith}
-use borrow.Author.Rules.{rules}
 use Rattle.soundness.proofs.Runs.{slots_by}
 use Rattle.soundness.proofs.slots_sound.Goals as goal
 

@@ -1,7 +1,6 @@
 use Rattle.device.specs.Layout.{image_at, image_version_at, mode_at, recorded_at, size_at}
 use Rattle.basics.specs.Words.{byte_at, word_at}
 use Rattle.device.proofs.Stored.{has_job_by}
-use borrow.Author.Rules.{rules}
 use Rattle.device.proofs.fields.has_job.Goals as goal
 
 pub returns : goal.returns

@@ -1,5 +1,4 @@
 use Rattle.device.specs.Layout.{is_head}
-use borrow.Author.Rules.{rules}
 use Rattle.device.proofs.fields.is_head.Goals as goal
 
 pub returns : goal.returns

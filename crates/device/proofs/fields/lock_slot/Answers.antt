@@ -3,8 +3,7 @@ use mathlib.Core.Path.{◌≡◌, sym}
 use native.Mathlib.Omega.{arith}
 use lib.ListN.{length}
 use Rattle.device.specs.Layout.{record_length}
-use Rattle.device.proofs.Records.{no_lock, lock_length}
-use borrow.Author.Rules.{rules}
+use Rattle.device.proofs.Records.{no_lock}
 use Rattle.device.proofs.fields.lock_slot.Goals as goal
 
 pub returns-then-at-ge-SLOTS : goal.returns-then-at-ge-SLOTS

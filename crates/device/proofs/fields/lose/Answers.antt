@@ -1,10 +1,8 @@
-use mathlib.Core.Path.{◌≡◌, ◌∙◌, ap}
-use mathlib.Core.Bool.{true, false}
+use mathlib.Core.Path.{◌≡◌, ◌∙◌}
 use Rattle.basics.specs.Words.{put_at, zeros}
 use Rattle.device.specs.Whole.{with_locks}
 use Rattle.device.specs.Layout.{locks_at, encode}
 use Rattle.device.proofs.Stored.{drop_in}
-use borrow.Author.Rules.{rules}
 use Rattle.device.proofs.fields.lose.Goals as goal
 
 pub returns : goal.returns

@@ -1,6 +1,5 @@
 use mathlib.Core.Path.{refl}
 use Rattle.device.proofs.Records.{stored_key_lem}
-use borrow.Author.Rules.{rules}
 use Rattle.device.proofs.fields.put_key.Goals as goal
 
 pub returns : goal.returns

@@ -1,5 +1,4 @@
 use Rattle.device.specs.Layout.{head_in}
-use borrow.Author.Rules.{rules}
 use Rattle.device.proofs.fields.read_head.Goals as goal
 
 pub returns : goal.returns

@@ -2,7 +2,6 @@ use mathlib.Core.Path.{◌∙◌}
 use borrow.Author.Tests.{eq-eqb}
 use Rattle.device.specs.Types.{Auth}
 use Rattle.device.proofs.Stored.{effect_in}
-use borrow.Author.Rules.{rules}
 use Rattle.device.proofs.fields.set_auth_key.Goals as goal
 
 pub returns : goal.returns

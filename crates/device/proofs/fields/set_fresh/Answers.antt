@@ -2,7 +2,6 @@ use Rattle.basics.specs.Words.{zeros}
 use mathlib.Core.Path.{◌∙◌, ap}
 use Rattle.device.proofs.Records.{blank, zeros_blank}
 use Rattle.device.specs.Kind.{fresh_device}
-use borrow.Author.Rules.{rules}
 use Rattle.device.proofs.fields.set_fresh.Goals as goal
 
 pub returns : goal.returns

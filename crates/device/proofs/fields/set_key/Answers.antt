@@ -3,7 +3,6 @@ use borrow.Author.Tests.{le-leb}
 use Rattle.basics.specs.Choice.{both_true}
 use Rattle.device.specs.Types.{Put}
 use Rattle.device.proofs.Stored.{effect_in}
-use borrow.Author.Rules.{rules}
 use Rattle.device.proofs.fields.set_key.Goals as goal
 
 pub returns : goal.returns

@@ -1,5 +1,4 @@
 use Rattle.device.specs.Layout.{head_bytes, encode}
-use borrow.Author.Rules.{rules}
 use Rattle.device.proofs.fields.set_loaded.Goals as goal
 
 pub returns : goal.returns

@@ -3,7 +3,6 @@ use mathlib.Core.List.{[]}
 use Rattle.device.specs.Layout.{decode}
 use Rattle.device.specs.Types.{Lock}
 use Rattle.device.proofs.Stored.{effect_in}
-use borrow.Author.Rules.{rules}
 use Rattle.device.proofs.fields.set_lock.Goals as goal
 
 pub returns : goal.returns

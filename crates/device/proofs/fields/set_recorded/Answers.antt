@@ -1,5 +1,4 @@
 use Rattle.device.proofs.Stored.{put_recorded_in}
-use borrow.Author.Rules.{rules}
 use Rattle.device.proofs.fields.set_recorded.Goals as goal
 
 pub returns : goal.returns

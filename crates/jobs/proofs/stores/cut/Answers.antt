@@ -1,5 +1,4 @@
 use Rattle.plan.specs.Stores.{spoilt}
-use borrow.Author.Rules.{rules}
 use Rattle.jobs.proofs.stores.cut.Goals as goal
 
 pub returns-in-Erase : goal.returns-in-Erase

@@ -1,5 +1,4 @@
 use Rattle.plan.specs.Stores.{stored}
-use borrow.Author.Rules.{rules}
 use Rattle.jobs.proofs.stores.make.Goals as goal
 
 pub returns-in-Erase : goal.returns-in-Erase
