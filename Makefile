@@ -8,13 +8,13 @@ CFLAGS ?= -O2 -Wall -Wextra
 
 LIBRARY := $(BUILD)/libgrzelotka.a
 VERSION := $(shell sed -n 's/^.define GRZELOTKA_VERSION "\(.*\)"/\1/p' include/grzelotka.h)
-# what the library is made of; folders are among it, so that a file taken away is seen too
-SOURCES := crates.txt $(shell find crates -name must-fail -prune -o -print)
+PROGRAMS := $(foreach program,packets makeimage play,crates/$(program)/out/$(program))
+# what library and programs are made of; the folders in a crate are among it, so that a file taken away is seen too
+SOURCES := crates.txt $(shell find crates -mindepth 2 \( -name must-fail -o -name out \) -prune -o -print)
 EXAMPLES := $(wildcard examples/*.c)
 HEADERS := include/grzelotka.h include/grzelotka_record.h
-# The library is x86-64 code. Where the machine is another, or has no C compiler, the kit's own tools link and run it; `make CC=` has them do so
-# anywhere.
-COMPILER := $(if $(and $(filter x86_64,$(shell uname -m)),$(shell command -v $(CC) 2>/dev/null)),$(CC),bin/cc86)
+# Where the machine has no C compiler, the kit's own tools compile and link; `make CC=` has them do so anywhere.
+COMPILER := $(if $(shell command -v $(CC) 2>/dev/null),$(CC),bin/cc86)
 
 .PHONY: all programs test demo bench install uninstall clean help always
 all: $(LIBRARY)
@@ -23,17 +23,21 @@ $(LIBRARY): $(SOURCES)
 	@command -v rt >/dev/null || { echo "make: the kit's command, rt, is not in PATH: it proves and compiles the library" >&2; exit 2; }
 	@echo "Proving the library's crates and compiling it; the first time this takes some minutes."
 	@mkdir -p $(BUILD)
-	@rt staticlib grzelotka >$(BUILD)/rt.log || { cat $(BUILD)/rt.log; exit 1; }
-	@cp target/staticlib/libgrzelotka.a $@
+	@(cd crates/grzelotka && rt lib) >$(BUILD)/rt.log 2>&1 || { cat $(BUILD)/rt.log; exit 1; }
+	@cp crates/grzelotka/out/libgrzelotka.a $@
 	@echo "$@ is built."
 
-# the programs of the bench, in target/bin; bin/makeimage and bin/play run theirs
-programs:
+# the programs of the bench; bin/makeimage and bin/play run theirs. The gate builds them too.
+programs: $(PROGRAMS)
+	@echo "bin/makeimage, bin/play and crates/packets/out/packets are built."
+
+# rt run proves and builds a program, and runs it: with no words and no input, each has nothing to do
+$(PROGRAMS): $(SOURCES)
 	@command -v rt >/dev/null || { echo "make: the kit's command, rt, is not in PATH: it proves and compiles the programs" >&2; exit 2; }
-	@echo "Proving the programs and what they stand on; the first time this takes some minutes."
+	@echo "Proving the program $(@F) and what it stands on; the first time this takes some minutes."
 	@mkdir -p $(BUILD)
-	@rt check packets makeimage play >$(BUILD)/rt.log || { cat $(BUILD)/rt.log; exit 1; }
-	@echo "bin/makeimage, bin/play and target/bin/packets are built."
+	@(cd $(@D)/.. && rt run </dev/null) >$(BUILD)/$(@F).log 2>&1 || { cat $(BUILD)/$(@F).log; exit 1; }
+	@touch $@
 
 test:
 	.ci/run
@@ -75,11 +79,11 @@ clean:
 
 help:
 	@echo 'make                       $(LIBRARY): the library, proved and compiled'
-	@echo 'make programs              bin/makeimage, bin/play and target/bin/packets, proved and compiled'
+	@echo 'make programs              bin/makeimage, bin/play and crates/packets/out/packets, proved and compiled'
 	@echo 'make demo                  an updater plays an upgrade, with damaged commands and with the power cut in every store'
 	@echo 'make demo IMAGE=FILE       the same with this image as the new stack'
 	@echo 'make test                  the gate: every proof, every must-fail edit, every test'
 	@echo 'make bench                 the library beside plain C'
 	@echo 'make install PREFIX=DIR    library, headers and pkg-config file; DESTDIR, LIBDIR and INCLUDEDIR are heeded; make uninstall'
-	@echo 'make clean                 removes $(BUILD); what is proved stays in target'
+	@echo 'make clean                 removes $(BUILD); what is proved stays in crates/*/out'
 	@echo 'make .. CC=COMPILER        another C compiler for the demo; with CC= it is the tools of the kit (bin/cc86)'

@@ -1,10 +1,7 @@
-# Sourced by the tests and by bin/cc86: where the kit's tools are, how they compile and link C for x86-64, and how an x86-64 program is run on
-# this machine. `root` is the repository's folder; unset, it is the one that we are in.
-kit=${RATTLE_HOME:-$(cd "$(dirname "$(rt doc)")/.." && pwd -P)}
-own=$kit/on/$(uname -m)
-tools=$own/toolchain
+# Sourced by the gate, the tests, the benchmarks and bin/cc86: what a bare machine may lack, where the kit's tools are, and how they compile and
+# link C. `root` is the repository's folder; unset, it is the one that we are in.
 
-# what a test needs and a bare machine may lack, by its command and its packages
+# what a test needs, by its command and its packages
 need() { # COMMAND PACKAGES..
     needed=$1
     shift
@@ -13,6 +10,12 @@ need() { # COMMAND PACKAGES..
     command -v "$needed" >/dev/null 2>&1 || { echo "$needed is missing and $* can't be installed" >&2; return 1; }
 }
 
+# rt is itself a program in Python
+need python3 python3 || exit 2
+command -v rt >/dev/null 2>&1 || { echo "the kit's command, rt, is not in PATH" >&2; exit 2; }
+kit=$(cd "$(dirname "$(rt doc)")" && pwd -P)
+tools=$kit/toolchain
+
 # C, compiled by the kit's clang; it has no C headers, so tests/include has those few that are needed
 compile86() { # SOURCE OBJECT WORDS..
     source=$1 object=$2
@@ -20,25 +23,14 @@ compile86() { # SOURCE OBJECT WORDS..
     "$tools/bin/clang" --target=x86_64-unknown-linux-gnu -O2 -fPIC -nostdinc -isystem "${root:-.}/tests/include" "$@" -c "$source" -o "$object"
 }
 
-# objects and archives, linked with the kit's C library
+# objects and archives, linked with the kit's C library; the program runs by itself
 link86() { # PROGRAM OBJECTS..
     program=$1
     shift
-    said=$("$own/bin/rattle-link" --target x86_64-unknown-linux-gnu --toolchain "$tools" -o "$program" "$@" 2>&1) || { echo "$said"; return 1; }
+    said=$("$kit/bin/rattle-link" --target x86_64-unknown-linux-gnu --toolchain "$tools" -o "$program" "$@" 2>&1) || { echo "$said"; return 1; }
 }
 
-# the words that run an x86-64 program as rt runs its own: the kit's loader, under its emulator where the machine is another
-runner() {
-    [ -x "$tools/bin/qemu-x86_64" ] && echo "$tools/bin/qemu-x86_64"
-    echo "$tools/lib/ld-linux-x86-64.so.2"
-    echo --library-path
-    echo "$tools/lib"
-}
-
-# an x86-64 program, run
-run86() { # PROGRAM WORDS..
-    # no path of the kit has a blank
-    # shellcheck disable=SC2046
-    set -- $(runner) "$@"
-    "$@"
+# the archive of a static library, proved and compiled: crates/CRATE/out/libCRATE.a
+archive() { # CRATE
+    (cd "crates/$1" && rt lib)
 }

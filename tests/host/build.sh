@@ -17,8 +17,8 @@ choose_library() { # FOLDER
     library=${GRZELOTKA_OBJECT:-}
     case $library in
     '')
-        rt staticlib grzelotka >"$1/said" 2>&1 || { cat "$1/said"; return 1; }
-        library=target/staticlib/libgrzelotka.a
+        archive grzelotka >"$1/said" 2>&1 || { cat "$1/said"; return 1; }
+        library=crates/grzelotka/out/libgrzelotka.a
         ;;
     plain)
         library=$1/stand_in.o
@@ -57,13 +57,11 @@ link_tests() { # FOLDER LIBRARY
 
 # one test, with its seed: STEPS steps of fuzz, STATES states of damaged, VERDICTS states of verdicts; places needs none
 test_host() { # TEST FOLDER SEED
-    # no path of the kit has a blank
-    # shellcheck disable=SC2046
     case $1 in
-    fuzz) python3 -B tests/host/fuzz.py --seed "$3" --steps "${STEPS:-200000}" $(runner) "$2/driver" ;;
-    verdicts) python3 -B tests/host/verdicts.py --seed "$3" --steps "${VERDICTS:-20}" $(runner) "$2/driver" ;;
-    damaged) run86 "$2/damaged" "$3" "${STATES:-40}" ;;
+    fuzz) python3 -B tests/host/fuzz.py --seed "$3" --steps "${STEPS:-200000}" "$2/driver" ;;
+    verdicts) python3 -B tests/host/verdicts.py --seed "$3" --steps "${VERDICTS:-20}" "$2/driver" ;;
+    damaged) "$2/damaged" "$3" "${STATES:-40}" ;;
     places) python3 -B tests/host/places.py ;;
-    *) run86 "$2/$1" "$3" ;;
+    *) "$2/$1" "$3" ;;
     esac
 }

@@ -232,25 +232,25 @@ def damaged_images(bench):
                       restore_signals=False)
 
 
-def without_program(bench):
-    """The wrapper where the program is not built, and where the kit is not found."""
-    root = bench.path('root')
-    for name in ('bin/makeimage', 'tests/kit.sh'):
-        os.makedirs(os.path.dirname(os.path.join(root, name)), exist_ok=True)
-        shutil.copy(os.path.join(os.path.dirname(os.path.dirname(bench.program)), name), os.path.join(root, name))
-    wrapper = os.path.join(root, 'bin/makeimage')
+def wrapper(bench):
+    """The wrapper where the program is not built, and where there is little else."""
+    home, root = os.path.dirname(os.path.dirname(bench.program)), bench.path('root')
+    for folder in ('bin', 'crates/makeimage/out'):
+        os.makedirs(os.path.join(root, folder))
+    alone = shutil.copy(bench.program, os.path.join(root, 'bin'))
     words = ['body.bin', 'new.bin', '1', 'sealed']
-    bench.refuses(words, f"makeimage: the program is not built yet: run 'make programs' in {os.path.realpath(root)}\n", program=wrapper)
+    bench.refuses(words, f"makeimage: the program is not built yet: run 'make programs' in {os.path.realpath(root)}\n", program=alone)
+    shutil.copy(os.path.join(home, 'crates/makeimage/out/makeimage'), os.path.join(root, 'crates/makeimage/out'))
     os.mkdir(bench.path('tools'))
     for tool in ('sh', 'dirname', 'realpath'):
         os.symlink(shutil.which(tool), bench.path(f'tools/{tool}'))
-    bench.refuses(words, "makeimage: the program is run with Rattle's kit: put its rt into PATH\n", env={'PATH': bench.path('tools')})
+    bench.makes(bytes(4), '1', 1, True, program=alone, env={'PATH': bench.path('tools')})
 
 
 def main():
     bench = Bench(sys.argv[1], int(sys.argv[2]))
     try:
-        for part in (good, documented, damaged_words, damaged_files, damaged_images, without_program):
+        for part in (good, documented, damaged_words, damaged_files, damaged_images, wrapper):
             part(bench)
     except Failure as failure:
         print(f'tests/makeimage: FAILED, seed {sys.argv[2]}: {failure}')

@@ -15,11 +15,9 @@ link_line() { # FOLDER LIBRARY
 
 # one test, with its seed: STREAMS streams of streams; page says what docs/SERIAL.md shows
 test_line() { # TEST FOLDER SEED
-    # no path of the kit has a blank
-    # shellcheck disable=SC2046
     case $1 in
-    streams) python3 -B tests/serial/streams.py --seed "$3" --steps "${STREAMS:-50000}" $(runner) "$2/driver" ;;
-    page) run86 "$2/page" >"$2/page.said" && diff "$2/page.wanted" "$2/page.said" && echo "page: the host of docs/SERIAL.md says what stands there" ;;
-    *) run86 "$2/$1" "$3" ;;
+    streams) python3 -B tests/serial/streams.py --seed "$3" --steps "${STREAMS:-50000}" "$2/driver" ;;
+    page) "$2/page" >"$2/page.said" && diff "$2/page.wanted" "$2/page.said" && echo "page: the host of docs/SERIAL.md says what stands there" ;;
+    *) "$2/$1" "$3" ;;
     esac
 }

@@ -27,7 +27,9 @@ def plain(text):
     """The text without remarks, strings and contracts."""
     text = re.sub(r'//[^\n]*', '', text)
     text = re.sub(r'b?"(?:[^"\\]|\\.)*"', '""', text)
-    return re.sub(r'\b(requires|ensures|invariant|decreases|variant)\s*\{[^{}]*(?:\{[^{}]*\}[^{}]*)*\}', '', text)
+    while clause := re.search(r'\b(?:requires|ensures|ghost) *\w* *:?\s*\{', text):
+        text = text[:clause.start()] + text[block_end(text, clause.start()):]
+    return text
 
 
 def block_end(text, start):
@@ -38,6 +40,14 @@ def block_end(text, start):
         if depth == 0:
             return i + 1
     return len(text)
+
+
+def imports(text):
+    """Each name that `use` brings in, and the path to where it stands; `use a::{b, c::d};` brings in two."""
+    for start, words in re.findall(r'^\s*(?:pub )?use ((?:\w+::)*)(\w+|\{[^{}]*\});', text, re.M):
+        for word in re.findall(r'[\w:]+', words):
+            path = (start + word).split('::')
+            yield path[-1], path[:-1]
 
 
 class Crates:
@@ -52,7 +62,7 @@ class Crates:
             sys.exit(f'arrays.py: {folder}: no crates there')
 
     def take(self, crate, module, text):
-        self.uses[crate, module] = {path.split('::')[-1]: path.split('::')[:-1] for path in re.findall(r'^\s*(?:pub )?use ([\w:]+);', text, re.M)}
+        self.uses[crate, module] = dict(imports(text))
         for name, value in re.findall(r'\bconst (\w+): \w+ = ([\d_]+);', text):
             self.constants[name] = max(self.constants.get(name, 0), int(value.replace('_', '')))
         for match in re.finditer(r'\bstruct (\w+)', text):
