@@ -1,7 +1,10 @@
 // Reads one packet a line in hex from standard input, and writes for each line its answer.
 #![tactic(auto)]
 
-ghost use Rattle.std.specs.Prelude.{◌≤◌, length};
+ghost use Rattle.std.specs.Prelude.{◌≤◌, IfOk, length};
+
+use std::io;
+use std::io::Read;
 
 // Room for one byte more than the longest line that is read: a line that fills it is too long.
 const ROOM: usize = line::LONGEST + 1;
@@ -14,74 +17,71 @@ struct Turn {
 }
 
 // Writes the answer to a line.
-fn say(text: &[u8]) {
+fn say(rt: &impl Print, text: &[u8]) -> io::Result<()> {
     let answer = line::answer(text);
     let n = answer.len;
     let bytes = answer.bytes;
-    io::write_all(libc::STDOUT_FILENO, &bytes[..n]);
+    rt.write_all(&bytes[..n])
 }
 
 // One byte more of the input, with n bytes of its line kept. What a line has past the room for it is dropped.
-fn step(text: &mut [u8], n: usize, b: u8) -> usize
+fn step(rt: &impl Print, text: &mut [u8], n: usize, b: u8) -> io::Result<usize>
     requires { n ≤ length text.old }
-    ensures { result ≤ length text.new }
+    ensures { IfOk result (λ kept. kept ≤ length text.new) }
 {
     if b == b'\n' {
-        say(&text[..n]);
-        return 0;
+        say(rt, &text[..n])?;
+        return Ok(0);
     }
     if n < text.len() {
         text[n] = b;
-        return n + 1;
+        return Ok(n + 1);
     }
-    n
+    Ok(n)
 }
 
 // A chunk more of the input.
-fn feed(text: &mut [u8], start: usize, chunk: &[u8]) -> usize
+fn feed(rt: &impl Print, text: &mut [u8], start: usize, chunk: &[u8]) -> io::Result<usize>
     requires { start ≤ length text.old }
-    ensures { result ≤ length text.new }
+    ensures { IfOk result (λ kept. kept ≤ length text.new) }
 {
     let mut n = start;
-    let mut i = 0;
-    while i < chunk.len() {
-        n = step(text, n, chunk[i]);
-        i += 1;
+    for b in chunk {
+        n = step(rt, text, n, *b)?;
     }
-    n
+    Ok(n)
 }
 
 // Reads a chunk and answers the lines that end in it.
-fn read_chunk(text: &mut [u8], n: usize) -> Turn
+fn read_chunk(rt: &impl Print, input: &mut impl Read, text: &mut [u8], n: usize) -> io::Result<Turn>
     requires { n ≤ length text.old }
-    ensures { result.kept ≤ length text.new }
+    ensures { IfOk result (λ turn. turn.kept ≤ length text.new) }
 {
-    let mut buffer = io::buffer();
-    let got = libc::read(libc::STDIN_FILENO, &mut buffer);
-    if got <= 0 {
-        return Turn {
+    let mut buffer = [0u8; 4096];
+    let got = input.read(&mut buffer)?;
+    if got == 0 {
+        return Ok(Turn {
             kept: n,
             more: false,
-        };
+        });
     }
-    let k = io::count(got, &buffer);
-    let kept = feed(text, n, &buffer[..k]);
-    Turn { kept, more: true }
+    let kept = feed(rt, text, n, &buffer[..got])?;
+    Ok(Turn { kept, more: true })
 }
 
 // The count of turns is there because every loop must end: no input has so many chunks.
-fn main() {
+fn main(rt: HostRuntime) -> io::Result<()> {
     let mut text = [0u8; ROOM];
     let mut n: usize = 0;
-    let mut more = true;
-    let mut turns = u64::MAX;
-    while turns > 0 && more {
-        let t = read_chunk(&mut text, n);
-        n = t.kept;
-        more = t.more;
-        turns -= 1;
+    for _ in 0..u64::MAX {
+        let turn = read_chunk(&rt, &mut rt.stdin(), &mut text, n)?;
+        n = turn.kept;
+        if !turn.more {
+            break;
+        }
     }
     if 0 < n {
-        say(&text[..n]);
+        say(&rt, &text[..n])?;
     }
+    Ok(())
 }
