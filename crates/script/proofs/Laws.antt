@@ -1,15 +1,14 @@
 -- Laws on words and digits.
 use Prim.Native.Nat.{ℕ, suc, ◌+◌, ◌-◌, ◌*◌, ◌<◌, ◌≤◌}
 use mathlib.Core.Bool.{Bool, true, false}
-use mathlib.Core.Path.{◌≡◌, refl, sym, ap, ◌∙◌}
+use mathlib.Core.Path.{◌≡◌, refl, sym}
 use mathlib.Core.List.{List, [], ◌∷◌}
 use native.Mathlib.Numerals.{add-one}
 use native.Mathlib.Omega.{arith}
 use lib.Dec.{eqb, leb}
 use lib.ListN.{length, get_or, take, drop, length-drop, drop_of_length-le}
-use lib.Seq.{drop-cons, take-length, take_all, length-take-le}
+use lib.Seq.{drop-cons, take_all, length-take-le}
 use borrow.Author.Tests.{lt-ltb, le-ltb, le-leb, lt-leb, eq-eqb, ne_eqb, eqb-true}
-use Rattle.bytes.specs.Bytes.{slice, index_of}
 use Rattle.basics.specs.Choice.{pick, yes_by, no_by}
 use Rattle.basics.specs.Words.{byte_at}
 use Rattle.line.specs.Answer.{Counted}
@@ -17,7 +16,7 @@ use Rattle.line.specs.Hex.{nibble_of, are_pairs, bytes_of}
 use Rattle.script.specs.declared.Decimal.{Decimal}
 use Rattle.script.specs.declared.Decimal.TheVariants.{Number, NoNumber}
 use Rattle.script.specs.declared.Pair.TheVariants.{Value, NoValue}
-use Rattle.script.specs.Words.{same, rest_at, pair_in, packet_bytes, are_digits, value_from, decimal_in}
+use Rattle.script.specs.Words.{same, index_of, rest_at, pair_in, packet_bytes, are_digits, value_from, decimal_in}
 
 same_self : (s : List ℕ) → same s s ≡ true
 unfolding same
@@ -49,10 +48,18 @@ each_way false false f g = refl
 pub same_by : (r : Bool) (s t : List ℕ) → (r ≡ true → s ≡ t) → (s ≡ t → r ≡ true) → r ≡ same s t
 same_by r s t f g = each_way r (same s t) (λ e. rw (f e) (same_self t)) (λ e. g (same_means s t e))
 
--- looked for in all of the list
-pub found : (b : ℕ) (s : List ℕ) (r : ℕ) → r ≡ 0 + index_of b (slice 0 (length s) s) → r ≡ index_of b s
-unfolding slice
-found b s r e = e ∙ rw take-length (omega arith)
+-- a byte more was looked at, at the index i
+pub found : (b : ℕ) (s : List ℕ) (i : ℕ) → i < length s → get_or s i 0 ≡ b → index_of b (drop i s) ≡ 0
+unfolding index_of
+found b s i h e = rw (drop-cons s i 0 h) (sym (yes_by _ _ _ _ (eq-eqb (get_or s i 0) b e) refl))
+
+pub not_found : (b : ℕ) (s : List ℕ) (i : ℕ) → i < length s → (get_or s i 0 ≡ b → ⊥) → index_of b (drop i s) ≡ suc (index_of b (drop (i + 1) s))
+unfolding index_of
+not_found b s i h e = rw (add-one i, drop-cons s i 0 h) (sym (no_by _ _ _ _ (ne_eqb (get_or s i 0) b e) refl))
+
+pub none : (b : ℕ) (s : List ℕ) (i : ℕ) → length s ≤ i → index_of b (drop i s) ≡ 0
+unfolding index_of
+none b s i h = rw (drop_of_length-le s {i = i} h) refl
 
 -- where what follows the first word begins
 pub rest_after : (s : List ℕ) (n : ℕ) → n ≡ index_of 32 s → n < length s → n + 1 ≡ rest_at s

@@ -1,6 +1,5 @@
 -- The words of a line: one from another, decimal numbers, pairs of hex digits.
-use Rattle.std.specs.Prelude.{ℕ, ◌+◌, ◌-◌, ◌*◌, Bool, true, false, List, [], ◌∷◌, eqb, leb, ltb, length, take, drop}
-use Rattle.bytes.specs.Bytes.{index_of}
+use Rattle.std.specs.Prelude.{ℕ, suc, ◌+◌, ◌-◌, ◌*◌, Bool, true, false, List, [], ◌∷◌, eqb, leb, ltb, length, take, drop}
 use Rattle.basics.specs.Choice.{pick}
 use Rattle.basics.specs.Words.{byte_at}
 use Rattle.line.specs.Hex.{nibble_of, is_hex, are_pairs, bytes_of}
@@ -15,6 +14,11 @@ same [] [] = true
 same [] (b ∷ t) = false
 same (a ∷ s) [] = false
 same (a ∷ s) (b ∷ t) = pick (eqb a b) (same s t) false
+
+-- how many bytes stand before the first b: its index, or the length where there is none
+unfoldable pub index_of : ℕ → List ℕ → ℕ
+index_of b [] = 0
+index_of b (c ∷ s) = pick (eqb c b) 0 (suc (index_of b s))
 
 -- the first word: all before the first blank
 abbrev pub first_of : List ℕ → List ℕ

@@ -2,9 +2,8 @@
 #![tactic(auto)]
 
 ghost use Rattle.std.specs.Prelude.{◌≡◌, ◌≤◌, ◌<◌, length, take, drop};
-ghost use Rattle.bytes.specs.Bytes.{index_of};
 ghost use Rattle.line.specs.Answer.{Counted};
-ghost use Rattle.script.specs.Words.{same, first_of, rest_at, rest_of, decimal_in, pair_in, packet_bytes};
+ghost use Rattle.script.specs.Words.{same, index_of, first_of, rest_at, rest_of, decimal_in, pair_in, packet_bytes};
 ghost use Rattle.script.specs.Orders.{pairs_in, packet_in, serial_in, work_in, cut_in, load_in, dump_in, erase_in, fill_in, flash_order, word_order, show_order, lone_order, order_of};
 
 use device::Device;
@@ -80,7 +79,7 @@ enum Pair {
 fn is(word: &[u8], text: &[u8]) -> bool
     ensures { result ≡ same word.now text.now }
 {
-    check::same(word, text)
+    word == text
 }
 
 // How long the first word is.
@@ -88,7 +87,12 @@ fn word_length(text: &[u8]) -> usize
     ensures length { result ≡ index_of 32 text.now }
     ensures within { result ≤ length text.now }
 {
-    bytes::scan::find(text, 0, text.len(), b' ')
+    for (i, c) in text.iter().enumerate() {
+        if *c == b' ' {
+            return i;
+        }
+    }
+    text.len()
 }
 
 // Where what follows the first word and one blank begins; the end, where there is no blank.
