@@ -1,7 +1,16 @@
 // A file read whole, and a new file written whole or not at all.
-ghost use Rattle.io.specs.Counts.{IsPrefixLen};
+ghost use Rattle.std.specs.Prelude.{◌≡◌, ◌≤◌, IfOk, length};
 
 use crate::messages;
+use crate::messages::NAME;
+use std::env::Env;
+use std::fs::{OpenFile, OpenOptions};
+use std::io::{Read, Write};
+use std::rt::Files;
+use std::{fs, io, str};
+
+// The system's number for a name that is no text.
+const NAME_NO_TEXT: i32 = 84;
 
 // What a file was read as: its first n bytes, and whether it has more. Why it can't be read was said.
 #[derive(Clone, Copy)]
@@ -11,59 +20,148 @@ pub struct Got {
     pub failed: bool,
 }
 
-// Reads the file that an argument names, as far as there is room. (io::read_full stops at the end of a file and at an error alike: the read
-// after it tells which it was.)
-pub fn read(must: &[u8], argument: usize, room: &mut [u8]) -> Got
-    ensures { IsPrefixLen result.n room.new }
-{
-    let mut name = io::buffer();
-    let k = os::arg(argument, &mut name);
-    let whole = os::errno() == 0;
-    let fd = if whole { os::open_read(&name[..k]) } else { -1 };
-    if fd < 0 {
-        messages::fail(must, &name[..k]);
-        return Got {
-            n: 0,
-            more: false,
-            failed: true,
-        };
-    }
-    let n = io::read_full(fd, room);
-    let mut next = [0u8; 1];
-    let left = libc::read(fd, &mut next);
-    let failed = (left < 0) | ((0 < left) & (n < room.len()));
-    if failed {
-        messages::fail(must, &name[..k]);
-    }
-    libc::close(fd);
-    Got {
-        n,
-        more: 0 < left,
-        failed,
+// The path that a name is: text, as the library takes no other.
+fn path(name: &[u8]) -> io::Result<&str> {
+    match str::from_utf8(name) {
+        Ok(path) => Ok(path),
+        Err(_) => Err(io::Error::from_raw_os_error(NAME_NO_TEXT)),
     }
 }
 
+// Reads on until there is no more room, or no more to read; how many bytes.
+fn fill(file: &mut impl Read, room: &mut [u8]) -> io::Result<usize>
+    ensures { IfOk result (λ n. n ≤ length room.new) }
+{
+    let mut n = 0;
+    for _ in 0..u64::MAX {
+        let got = file.read(&mut room[n..])?;
+        if got == 0 {
+            break;
+        }
+        n += got;
+    }
+    Ok(n)
+}
+
+// Reads a file, as far as there is room; where that is all taken, one read more tells whether the file has more.
+fn read_file(rt: &impl Files, name: &[u8], room: &mut [u8]) -> io::Result<Got>
+    ensures { IfOk result (λ got. got.n ≤ length room.new) }
+{
+    let mut file = fs::open(rt, path(name)?)?;
+    let n = fill(&mut file, room)?;
+    let mut next = [0u8; 1];
+    let more = n == room.len() && 0 < file.read(&mut next)?;
+    Ok(Got {
+        n,
+        more,
+        failed: false,
+    })
+}
+
+// The same; what goes wrong is said.
+fn read_or_say(
+    rt: &impl Files,
+    errors: &impl Print,
+    must: &str,
+    name: &[u8],
+    room: &mut [u8],
+) -> io::Result<Got>
+    ensures { IfOk result (λ got. got.n ≤ length room.new) }
+{
+    match read_file(rt, name, room) {
+        Ok(got) => Ok(got),
+        Err(error) => not_read(errors, must, name, &error),
+    }
+}
+
+fn not_read(errors: &impl Print, must: &str, name: &[u8], error: &io::Error) -> io::Result<Got>
+    ensures { IfOk result (λ got. got.n ≡ 0) }
+{
+    messages::fail(errors, must, name, error)?;
+    Ok(Got {
+        n: 0,
+        more: false,
+        failed: true,
+    })
+}
+
+// Reads the file that an argument names, as far as there is room.
+pub fn read(
+    rt: &(impl Env + Files),
+    errors: &impl Print,
+    must: &str,
+    which: usize,
+    room: &mut [u8],
+) -> io::Result<Got>
+    ensures { IfOk result (λ got. got.n ≤ length room.new) }
+{
+    let mut name = [0u8; NAME];
+    match messages::argument(rt, which, &mut name) {
+        Ok(k) => read_or_say(rt, errors, must, &name[..k], room),
+        Err(error) => not_read(errors, must, b"", &error),
+    }
+}
+
+// Writes two parts, and sees to it that they stand: a file that is only closed tells no failure.
+fn write_parts(
+    mut file: impl Write + OpenFile + Drop,
+    first: &[u8],
+    second: &[u8],
+) -> io::Result<()> {
+    file.write_all(first)?;
+    file.write_all(second)?;
+    file.sync_all()
+}
+
+// Makes a file of two parts, or none.
+fn write_file(rt: &impl Files, name: &[u8], first: &[u8], second: &[u8]) -> io::Result<()> {
+    let path = path(name)?;
+    let file = OpenOptions::new()
+        .write(true)
+        .create_new(true)
+        .open(rt, path)?;
+    if let Err(error) = write_parts(file, first, second) {
+        let _ = fs::remove_file(rt, path);
+        return Err(error);
+    }
+    Ok(())
+}
+
+// The same; where it fails it is said.
+fn write_or_say(
+    rt: &impl Files,
+    errors: &impl Print,
+    must: &str,
+    name: &[u8],
+    parts: (&[u8], &[u8]),
+) -> io::Result<bool> {
+    match write_file(rt, name, parts.0, parts.1) {
+        Ok(()) => Ok(true),
+        Err(error) => not_written(errors, must, name, &error),
+    }
+}
+
+fn not_written(
+    errors: &impl Print,
+    must: &str,
+    name: &[u8],
+    error: &io::Error,
+) -> io::Result<bool> {
+    messages::fail(errors, must, name, error)?;
+    Ok(false)
+}
+
 // Makes the file that an argument names, of two parts. Where that fails it is said, and no file is left.
-pub fn write(must: &[u8], argument: usize, first: &[u8], second: &[u8]) -> bool {
-    let mut name = io::buffer();
-    let k = os::arg(argument, &mut name);
-    let whole = os::errno() == 0;
-    let fd = if whole { os::create(&name[..k]) } else { -1 };
-    if fd < 0 {
-        messages::fail(must, &name[..k]);
-        return false;
+pub fn write(
+    rt: &(impl Env + Files),
+    errors: &impl Print,
+    must: &str,
+    which: usize,
+    parts: (&[u8], &[u8]),
+) -> io::Result<bool> {
+    let mut name = [0u8; NAME];
+    match messages::argument(rt, which, &mut name) {
+        Ok(k) => write_or_say(rt, errors, must, &name[..k], parts),
+        Err(error) => not_written(errors, must, b"", &error),
     }
-    let written = io::write_all(fd, first) && io::write_all(fd, second);
-    if !written {
-        messages::fail(must, &name[..k]);
-    }
-    let closed = libc::close(fd) == 0;
-    if written & !closed {
-        messages::fail(must, &name[..k]);
-    }
-    let made = written & closed;
-    if !made {
-        os::unlink(&name[..k]);
-    }
-    made
 }

@@ -7,9 +7,12 @@ mod messages;
 
 use device::Device;
 use image::Header;
-use libc::STDOUT_FILENO;
 use maker::version::Version;
 use maker::{Made, Unmade, Wanted, version};
+use messages::{Has, NAME};
+use std::env::{Env, FillError};
+use std::io;
+use std::rt::Files;
 
 // Which argument each word is.
 const BODY: usize = 1;
@@ -38,136 +41,146 @@ struct Key {
 }
 
 // VERSION is no number, or the one that stands for no stack.
-fn refuse_version() {
+fn refuse_version(rt: &impl Env, errors: &impl Print) -> io::Result<()> {
     messages::refuse(
-        b"VERSION must be a number from 0 to 4294967294, decimal or hex after 0x",
+        rt,
+        errors,
+        "VERSION must be a number from 0 to 4294967294, decimal or hex after 0x",
         VERSION,
-    );
+    )
 }
 
 // VERSION; what is wrong with it is said.
-fn version_asked() -> Version {
-    let mut text = io::buffer();
-    let n = os::arg(VERSION, &mut text);
+fn version_asked(rt: &impl Env, errors: &impl Print) -> io::Result<Version> {
+    let mut text = [0u8; NAME];
+    let n = messages::argument_or_none(rt, VERSION, &mut text);
     let asked = version::read(&text[..n]);
     match asked {
         Version::Is(_) => {}
-        Version::No => refuse_version(),
+        Version::No => refuse_version(rt, errors)?,
     }
-    asked
+    Ok(asked)
 }
 
 // sealed or unsealed; what is neither is said.
-fn seal_asked() -> Seal {
-    let mut text = io::buffer();
-    let n = os::arg(SEAL, &mut text);
-    if check::same(&text[..n], b"sealed") {
-        return Seal::Sealed;
+fn seal_asked(rt: &impl Env, errors: &impl Print) -> io::Result<Seal> {
+    let mut text = [0u8; NAME];
+    let n = messages::argument_or_none(rt, SEAL, &mut text);
+    if &text[..n] == b"sealed" {
+        return Ok(Seal::Sealed);
     }
-    if check::same(&text[..n], b"unsealed") {
-        return Seal::Unsealed;
+    if &text[..n] == b"unsealed" {
+        return Ok(Seal::Unsealed);
     }
-    messages::refuse(b"the word after VERSION must be sealed or unsealed", SEAL);
-    Seal::Neither
+    messages::refuse(
+        rt,
+        errors,
+        "the word after VERSION must be sealed or unsealed",
+        SEAL,
+    )?;
+    Ok(Seal::Neither)
 }
 
 // KEY, where there is one; what is wrong with it is said.
-fn key_asked(tagged: bool) -> Key {
+fn key_asked(rt: &(impl Env + Files), errors: &impl Print, tagged: bool) -> io::Result<Key> {
     let mut bytes = [0u8; 64];
     if !tagged {
-        return Key {
+        return Ok(Key {
             bytes,
             failed: false,
+        });
+    }
+    let must = "KEY must be a file that can be read";
+    let got = files::read(rt, errors, must, KEY, &mut bytes)?;
+    let wrong = got.more || got.n != 64;
+    if wrong && !got.failed {
+        let has = if got.more {
+            Has::More
+        } else {
+            Has::Bytes(got.n)
         };
+        messages::refuse_length(rt, errors, "KEY must have exactly", 64, KEY, has)?;
     }
-    let got = files::read(b"KEY must be a file that can be read", KEY, &mut bytes);
-    let wrong = got.more | (got.n != 64);
-    if wrong & !got.failed {
-        messages::refuse_length(b"KEY must have exactly ", 64, KEY, got.n, got.more);
-    }
-    Key {
+    Ok(Key {
         bytes,
-        failed: got.failed | wrong,
-    }
-}
-
-// To standard output, a part of the line that says what was made.
-fn print(text: &[u8]) {
-    io::write_all(STDOUT_FILENO, text);
-}
-
-fn print_number(n: usize, what: &[u8]) {
-    io::print_decimal(STDOUT_FILENO, n as u64);
-    print(what);
-}
-
-fn print_word(what: &[u8], n: u32) {
-    print(what);
-    io::print_hex(STDOUT_FILENO, n as u64, 8);
+        failed: got.failed || wrong,
+    })
 }
 
 // How long the image is, in bytes and in sectors.
-fn report_size(size: u32) {
-    print_number(size as usize, b" bytes, ");
+fn report_size(out: &impl Print, size: u32) -> io::Result<()> {
     let sectors = sectors::sectors_for(size, Device::SECTOR_SIZE);
     if sectors == 1 {
-        print(b"1 sector");
+        print!(out; "{size} bytes, 1 sector")
     } else {
-        print_number(sectors, b" sectors");
+        print!(out; "{size} bytes, {sectors} sectors")
     }
 }
 
 // The line that says what was made.
-fn report(h: Header) {
-    messages::print_argument(STDOUT_FILENO, IMAGE);
-    print(b": ");
-    report_size(h.size);
-    print_word(b", version 0x", h.version);
-    print_word(b", sum 0x", h.sum);
-    if h.seal == 1 {
-        print(b", sealed");
-    } else {
-        print(b", unsealed");
-    }
-    if h.tag == 1 {
-        print(b", tagged\n");
-    } else {
-        print(b", no tag\n");
-    }
+fn report(rt: &(impl Env + Print), h: Header) -> io::Result<()> {
+    messages::print_argument(rt, rt, IMAGE)?;
+    print!(rt; ": ")?;
+    report_size(rt, h.size)?;
+    let version = h.version;
+    let sum = h.sum;
+    print!(rt; ", version 0x{version:08x}, sum 0x{sum:08x}")?;
+    let sealed = if h.seal == 1 { "sealed" } else { "unsealed" };
+    let tagged = if h.tag == 1 { "tagged" } else { "no tag" };
+    print!(rt; ", {sealed}, {tagged}\n")
 }
 
 // BODY is longer than the room for it.
-fn refuse_long() {
-    messages::refuse_length(b"BODY must have at most ", maker::LONGEST, BODY, 0, true);
+fn refuse_long(rt: &impl Env, errors: &impl Print) -> io::Result<()> {
+    messages::refuse_length(
+        rt,
+        errors,
+        "BODY must have at most",
+        maker::LONGEST,
+        BODY,
+        Has::More,
+    )
+}
+
+// The body can't be an image.
+fn refuse_body(
+    rt: &impl Env,
+    errors: &impl Print,
+    unmade: Unmade,
+    length: usize,
+) -> io::Result<()> {
+    match unmade {
+        Unmade::NotWords => messages::refuse_length(
+            rt,
+            errors,
+            "BODY must have a multiple of",
+            4,
+            BODY,
+            Has::Bytes(length),
+        ),
+        Unmade::NoVersion => refuse_version(rt, errors),
+        Unmade::TooLong => refuse_long(rt, errors),
+    }
 }
 
 // Makes the image of a body; what can't be one is said.
-fn make(body: &[u8], wanted: Wanted) {
+fn make(
+    rt: &(impl Env + Files + Print),
+    errors: &impl Print,
+    body: &[u8],
+    wanted: Wanted,
+) -> io::Result<()> {
     let making = maker::make(body, wanted);
     let header = making.header;
-    let made = making.made;
-    match made {
+    match making.made {
         Made::Image(h) => {
-            if files::write(
-                b"IMAGE must be a new file that can be written",
-                IMAGE,
-                &header,
-                body,
-            ) {
-                report(h);
+            let must = "IMAGE must be a new file that can be written";
+            if files::write(rt, errors, must, IMAGE, (&header, body))? {
+                report(rt, h)?;
             }
+            Ok(())
         }
-        Made::Not(unmade) => match unmade {
-            Unmade::NotWords => messages::refuse_length(
-                b"BODY must have a multiple of ",
-                4,
-                BODY,
-                body.len(),
-                false,
-            ),
-            Unmade::NoVersion => refuse_version(),
-            Unmade::TooLong => refuse_long(),
-        },
+        Made::Not(unmade) => refuse_body(rt, errors, unmade, body.len()),
     }
 }
 
@@ -177,23 +190,31 @@ fn room() -> [u8; maker::LONGEST] {
 }
 
 // The files, KEY and then BODY.
-fn start(version: u32, sealed: bool, tagged: bool) {
-    let asked = key_asked(tagged);
+fn start(
+    rt: &(impl Env + Files + Print),
+    errors: &impl Print,
+    version: u32,
+    sealed: bool,
+    tagged: bool,
+) -> io::Result<()> {
+    let asked = key_asked(rt, errors, tagged)?;
     let key = asked.bytes;
     if asked.failed {
-        return;
+        return Ok(());
     }
     let mut body = room();
-    let got = files::read(b"BODY must be a file that can be read", BODY, &mut body);
+    let must = "BODY must be a file that can be read";
+    let got = files::read(rt, errors, must, BODY, &mut body)?;
     let n = got.n;
     if got.failed {
-        return;
+        return Ok(());
     }
     if got.more {
-        refuse_long();
-        return;
+        return refuse_long(rt, errors);
     }
     make(
+        rt,
+        errors,
         &body[..n],
         Wanted {
             version,
@@ -201,23 +222,33 @@ fn start(version: u32, sealed: bool, tagged: bool) {
             tagged,
             key,
         },
-    );
+    )
+}
+
+// How many words the program was called with, its own name among them; of more than it takes, one more than that.
+fn word_count(rt: &impl Env) -> usize {
+    for i in 0..7 {
+        if let Err(FillError::NotPresent) = rt.arg(i, &mut []) {
+            return i;
+        }
+    }
+    7
 }
 
 // The words are looked at before any file.
-fn main() {
-    let words = os::arg_count();
-    if (words < 5) | (6 < words) {
-        messages::usage();
-        return;
+fn main(rt: HostRuntime) -> io::Result<()> {
+    let errors = rt.stderr();
+    let words = word_count(&rt);
+    if words < 5 || 6 < words {
+        return messages::usage(&errors);
     }
     let tagged = words == 6;
-    let Version::Is(version) = version_asked() else {
-        return;
+    let Version::Is(version) = version_asked(&rt, &errors)? else {
+        return Ok(());
     };
-    match seal_asked() {
-        Seal::Sealed => start(version, true, tagged),
-        Seal::Unsealed => start(version, false, tagged),
-        Seal::Neither => {}
+    match seal_asked(&rt, &errors)? {
+        Seal::Sealed => start(&rt, &errors, version, true, tagged),
+        Seal::Unsealed => start(&rt, &errors, version, false, tagged),
+        Seal::Neither => Ok(()),
     }
 }

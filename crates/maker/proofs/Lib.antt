@@ -1,4 +1,3 @@
-pub mod Copies
 pub mod Laws
 pub mod Reader
 pub mod Digits
