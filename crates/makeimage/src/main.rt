@@ -66,10 +66,10 @@ fn version_asked(rt: &impl Env, errors: &impl Print) -> io::Result<Version> {
 fn seal_asked(rt: &impl Env, errors: &impl Print) -> io::Result<Seal> {
     let mut text = [0u8; NAME];
     let n = messages::argument_or_none(rt, SEAL, &mut text);
-    if &text[..n] == b"sealed" {
+    if &text[..n] == b"sealed".as_slice() {
         return Ok(Seal::Sealed);
     }
-    if &text[..n] == b"unsealed" {
+    if &text[..n] == b"unsealed".as_slice() {
         return Ok(Seal::Unsealed);
     }
     messages::refuse(
