@@ -3,8 +3,8 @@
 #![tactic(auto)]
 
 use device::{Device, Mode, places};
-use libc::STDOUT_FILENO;
 use services::{Verdict, value};
+use std::io;
 
 // A row: the call (handle, restart, work, cut); the device (unsound; idle; its stack running; with a delete under way); how many bytes the reply
 // buffer lacks of 12, the flash and the filler of their lengths; the packet's first byte.
@@ -56,136 +56,147 @@ fn device(kind: u8) -> Device {
     Device { bytes }
 }
 
-fn say(text: &[u8]) {
-    io::write_all(STDOUT_FILENO, text);
-}
-
-fn say_if(told: bool, text: &[u8]) {
+fn say_if(rt: &impl Print, told: bool, text: &str) -> io::Result<()> {
     if told {
-        say(text);
+        return print!(rt; "{text}");
     }
+    Ok(())
 }
 
-fn say_byte(byte: u8) {
-    io::print_hex(STDOUT_FILENO, byte as u64, 2);
-}
-
-fn say_bytes(bytes: &[u8]) {
-    let mut i = 0;
-    while i < bytes.len() {
-        say_byte(bytes[i]);
-        i += 1;
+fn say_bytes(rt: &impl Print, bytes: &[u8]) -> io::Result<()> {
+    for byte in bytes {
+        print!(rt; "{byte:02x}")?;
     }
+    Ok(())
 }
 
 // The call and its faults, and what it answers.
-fn say_answer(call: &[u8], row: [u8; 6], verdict: Verdict, reply: &[u8]) {
-    say(call);
-    say_if(row[1] == b'u', b", record unsound");
-    say_if(row[3] == 1, b", flash short");
-    say_if((row[2] == 5) | (row[2] == 7), b", reply short");
-    say_if(row[4] == 1, b", filler short");
-    say_if(row[5] == 0x11, b", packet damaged");
+fn say_answer(
+    rt: &impl Print,
+    call: &str,
+    row: [u8; 6],
+    verdict: Verdict,
+    reply: &[u8],
+) -> io::Result<()> {
+    print!(rt; "{call}")?;
+    say_if(rt, row[1] == b'u', ", record unsound")?;
+    say_if(rt, row[3] == 1, ", flash short")?;
+    say_if(rt, row[2] == 5 || row[2] == 7, ", reply short")?;
+    say_if(rt, row[4] == 1, ", filler short")?;
+    say_if(rt, row[5] == 0x11, ", packet damaged")?;
     match verdict {
-        Verdict::Taken => say(b": taken "),
+        Verdict::Taken => print!(rt; ": taken ")?,
         Verdict::Refused(refusal) => {
-            say(b": refused ");
-            io::print_decimal(STDOUT_FILENO, packet::number(refusal) as u64);
-            say(b" ");
+            let number = packet::number(refusal);
+            print!(rt; ": refused {number} ")?;
         }
     }
-    say_bytes(reply);
+    say_bytes(rt, reply)
 }
 
 // Makes the call of a row, with GET_STATE as the packet, and says what it answers.
-fn call(row: [u8; 6], d: Device, flash: &mut [u8], filler: &[u8], reply: &mut [u8]) -> Device {
+fn call(
+    rt: &impl Print,
+    row: [u8; 6],
+    d: Device,
+    flash: &mut [u8],
+    filler: &[u8],
+    reply: &mut [u8],
+) -> io::Result<Device> {
     match row[0] {
         b'h' => {
             let done = value::handle(d, flash, &[row[5], 0x52, 0xFC, 0x00], reply);
             let verdict = done.verdict;
-            say_answer(b"handle", row, verdict, reply);
-            done.device
+            say_answer(rt, "handle", row, verdict, reply)?;
+            Ok(done.device)
         }
         b'r' => {
             let done = value::restart(d, reply);
             let verdict = done.verdict;
-            say_answer(b"restart", row, verdict, reply);
-            done.device
+            say_answer(rt, "restart", row, verdict, reply)?;
+            Ok(done.device)
         }
         b'w' => {
             let done = value::work(d, flash);
             let verdict = done.verdict;
-            say_answer(b"work", row, verdict, b"");
-            io::print_decimal(STDOUT_FILENO, done.left as u64);
-            done.device
+            say_answer(rt, "work", row, verdict, b"")?;
+            let left = done.left;
+            print!(rt; "{left}")?;
+            Ok(done.device)
         }
         _ => {
             let done = value::cut(d, flash, filler, true, reply);
             let verdict = done.verdict;
-            say_answer(b"cut", row, verdict, reply);
-            done.device
+            say_answer(rt, "cut", row, verdict, reply)?;
+            Ok(done.device)
         }
     }
 }
 
 // Gives the call of a row its buffers, without the bytes that they lack.
-fn lend(row: [u8; 6], d: Device, flash: &mut [u8], filler: &[u8], reply: &mut [u8]) -> Device {
+fn lend(
+    rt: &impl Print,
+    row: [u8; 6],
+    d: Device,
+    flash: &mut [u8],
+    filler: &[u8],
+    reply: &mut [u8],
+) -> io::Result<Device> {
     let a = row[2] as usize;
     let b = row[3] as usize;
     let c = row[4] as usize;
     if a <= reply.len() {
         if b <= flash.len() {
             if c <= filler.len() {
-                return call(row, d, &mut flash[b..], &filler[c..], &mut reply[a..]);
+                return call(rt, row, d, &mut flash[b..], &filler[c..], &mut reply[a..]);
             }
         }
     }
-    d
+    Ok(d)
 }
 
 // Whether each byte of the first is the second's, past whose end there are zeros.
 fn same(a: &[u8], b: &[u8]) -> bool {
-    let mut i = 0;
-    while i < a.len() {
-        if a[i] != basics::byte_at(b, i) {
+    for (i, byte) in a.iter().enumerate() {
+        if *byte != basics::byte_at(b, i) {
             return false;
         }
-        i += 1;
     }
     true
 }
 
-fn say_device(d: Device) {
+fn say_device(rt: &impl Print, d: Device) -> io::Result<()> {
     let h = d.head();
     let mode = h.mode;
     match mode {
-        Mode::Stack => say(b", stack runs"),
-        Mode::Idle => say(b", FUS idle"),
-        _ => say(b", delete"),
+        Mode::Stack => print!(rt; ", stack runs")?,
+        Mode::Idle => print!(rt; ", FUS idle")?,
+        _ => print!(rt; ", delete")?,
     }
-    say_if(h.asked, b", asked once");
-    say_if(h.loaded == 1, b", key 1 loaded");
+    say_if(rt, h.asked, ", asked once")?;
+    say_if(rt, h.loaded == 1, ", key 1 loaded")
 }
 
 // The device after a call, and what changed; the flash was all zeros.
-fn say_changes(before: Device, after: Device, now: &[u8]) {
-    say_device(after);
-    say_if(!same(&before.bytes, &after.bytes), b", device changed");
-    say_if(!same(now, b""), b", flash changed");
-    say(b"\n");
+fn say_changes(rt: &impl Print, before: Device, after: Device, now: &[u8]) -> io::Result<()> {
+    say_device(rt, after)?;
+    say_if(rt, !same(&before.bytes, &after.bytes), ", device changed")?;
+    say_if(rt, !same(now, b""), ", flash changed")?;
+    print!(rt; "\n")
 }
 
 // Runs a row, while a good response stands in the reply buffer, and writes its line.
-fn run(row: [u8; 6]) {
+fn run(rt: &impl Print, row: [u8; 6]) -> io::Result<()> {
     let d = device(row[1]);
     let mut flash = flash();
     let mut reply = *b"\x11\x0E\x05\xFF\x52\xFC\x00\x00\xEE\xEE\xEE\xEE";
-    let after = lend(row, d, &mut flash, &[0x5A; 4096], &mut reply);
-    say_changes(d, after, &flash);
+    let after = lend(rt, row, d, &mut flash, &[0x5A; 4096], &mut reply)?;
+    say_changes(rt, d, after, &flash)
 }
 
-fn main() {
+fn main(rt: HostRuntime) -> io::Result<()> {
     for i in 0..19 {
-        run(ROWS[i]);
+        run(&rt, ROWS[i])?;
     }
+    Ok(())
 }

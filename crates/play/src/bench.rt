@@ -1,7 +1,12 @@
 // What the bench does to the flash by itself: it looks at it, fills it, loads files into it.
+ghost use Rattle.std.specs.Prelude.{◌≤◌, IfOk, length};
+
 use crate::say;
 use device::Device;
 use image::Found;
+use std::io::Read;
+use std::rt::Files;
+use std::{fs, io, str};
 
 // How many bytes the flash has.
 pub const FLASH: usize = Device::SECTOR_COUNT * Device::SECTOR_SIZE;
@@ -18,8 +23,8 @@ fn sector(flash: &[u8], t: usize) -> &[u8] {
     &flash[..0]
 }
 
-pub fn dump(flash: &[u8], t: usize) {
-    say::line(sector(flash, t));
+pub fn dump(rt: &impl Print, flash: &[u8], t: usize) -> io::Result<()> {
+    say::line(rt, sector(flash, t))
 }
 
 // Whether every byte is 0xFF.
@@ -49,12 +54,12 @@ fn character(part: &[u8]) -> u8 {
 }
 
 // One character a sector.
-pub fn map(flash: &[u8]) {
+pub fn map(rt: &impl Print, flash: &[u8]) -> io::Result<()> {
     let mut characters = [b'\n'; Device::SECTOR_COUNT + 1];
     for t in 0..Device::SECTOR_COUNT {
         characters[t] = character(sector(flash, t));
     }
-    say::text(&characters);
+    say::text(rt, &characters)
 }
 
 // Fills a sector.
@@ -71,61 +76,97 @@ pub fn fill(flash: &mut [u8], t: usize, byte: u8) {
 }
 
 // Which sectors n bytes stand in.
-fn loaded(n: usize, from: usize, to: usize) {
-    say::text(b"loaded ");
-    say::number(n);
-    say::text(b" bytes in sectors ");
-    say::number(from);
-    say::text(b" to ");
-    say::number(to);
-    say::text(b"\n");
+fn loaded(rt: &impl Print, n: usize, from: usize, to: usize) -> io::Result<()> {
+    say::text(rt, b"loaded ")?;
+    say::number(rt, n)?;
+    say::text(rt, b" bytes in sectors ")?;
+    say::number(rt, from)?;
+    say::text(rt, b" to ")?;
+    say::number(rt, to)?;
+    say::text(rt, b"\n")
 }
 
 // The bytes of a file go into flash from a sector's first byte on, if they fit.
-fn put(flash: &mut [u8], t: usize, bytes: &[u8]) {
+fn put(rt: &impl Print, flash: &mut [u8], t: usize, bytes: &[u8]) -> io::Result<()> {
     if bytes.len() == 0 {
-        say::text(b"bad file: empty\n");
-        return;
+        return say::text(rt, b"bad file: empty\n");
     }
     if t < Device::SECTOR_COUNT {
         let at = t * Device::SECTOR_SIZE;
         if at <= flash.len() {
             if bytes.len() <= flash.len() - at {
-                bytes::copy(bytes, &mut flash[at..]);
-                loaded(bytes.len(), t, t + (bytes.len() - 1) / Device::SECTOR_SIZE);
-                return;
+                let end = at + bytes.len();
+                flash[at..end].copy_from_slice(bytes);
+                let last = t + (bytes.len() - 1) / Device::SECTOR_SIZE;
+                return loaded(rt, bytes.len(), t, last);
             }
         }
     }
-    say::text(b"bad file: does not fit\n");
+    say::text(rt, b"bad file: does not fit\n")
 }
 
 fn room() -> [u8; FLASH] {
     [0; FLASH]
 }
 
-// Reads an open file to its end, before a byte of flash is changed. One read more tells the end from a failure, and from more bytes than flash has.
-fn read(flash: &mut [u8], t: usize, file: i32) {
+// What an open file was read as: its first n bytes, and whether it has more.
+#[derive(Clone, Copy)]
+struct Got {
+    n: usize,
+    more: bool,
+}
+
+// Reads on until there is no more room, or no more to read; how many bytes.
+fn fill_room(file: &mut impl Read, bytes: &mut [u8]) -> io::Result<usize>
+    ensures { IfOk result (λ n. n ≤ length bytes.new) }
+{
+    let mut n = 0;
+    for _ in 0..u64::MAX {
+        let got = file.read(&mut bytes[n..])?;
+        if got == 0 {
+            break;
+        }
+        n += got;
+    }
+    Ok(n)
+}
+
+// Reads a file; where there is no more room, one read more tells whether the file has more.
+fn read_file(file: &mut impl Read, bytes: &mut [u8]) -> io::Result<Got>
+    ensures { IfOk result (λ got. got.n ≤ length bytes.new) }
+{
+    let n = fill_room(file, bytes)?;
+    let mut next = [0u8; 1];
+    let more = n == bytes.len() && 0 < file.read(&mut next)?;
+    Ok(Got { n, more })
+}
+
+// Reads an open file to its end, before a byte of flash is changed.
+fn read(rt: &impl Print, flash: &mut [u8], t: usize, file: &mut impl Read) -> io::Result<()> {
     let mut bytes = room();
-    let n = io::read_full(file, &mut bytes);
-    let mut more = [0u8; 1];
-    let got = libc::read(file, &mut more);
-    if got == 0 {
-        put(flash, t, &bytes[..n]);
-    } else if got < 0 {
-        say::text(b"bad file: cannot be read\n");
-    } else {
-        say::text(b"bad file: does not fit\n");
+    match read_file(file, &mut bytes) {
+        Ok(got) => {
+            if got.more {
+                return say::text(rt, b"bad file: does not fit\n");
+            }
+            put(rt, flash, t, &bytes[..got.n])
+        }
+        Err(_) => say::text(rt, b"bad file: cannot be read\n"),
+    }
+}
+
+// Opens the file with this name, which has to be text: the library takes no other.
+fn open<R: Files>(rt: &R, name: &[u8]) -> io::Result<R::File> {
+    match str::from_utf8(name) {
+        Ok(path) => fs::open(rt, path),
+        Err(_) => Err(io::Error::from(io::ErrorKind::InvalidFilename)),
     }
 }
 
 // Loads the file with this name.
-pub fn load(flash: &mut [u8], t: usize, name: &[u8]) {
-    let file = os::open_read(name);
-    if file < 0 {
-        say::text(b"bad file: cannot be opened\n");
-        return;
+pub fn load(rt: &(impl Files + Print), flash: &mut [u8], t: usize, name: &[u8]) -> io::Result<()> {
+    match open(rt, name) {
+        Ok(mut file) => read(rt, flash, t, &mut file),
+        Err(_) => say::text(rt, b"bad file: cannot be opened\n"),
     }
-    read(flash, t, file);
-    libc::close(file);
 }

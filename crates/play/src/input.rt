@@ -1,5 +1,8 @@
 // Standard input, line by line.
-ghost use Rattle.std.specs.Prelude.{◌≤◌, length};
+ghost use Rattle.std.specs.Prelude.{◌≤◌, IfOk, length};
+
+use std::io;
+use std::io::Read;
 
 // Room for one byte more than the longest line that is read: a line that fills it is too long.
 pub const ROOM: usize = script::LONGEST + 1;
@@ -30,18 +33,17 @@ enum Next {
 }
 
 // The next byte of the input; where the buffer is empty, it is filled first.
-fn take(buffer: &mut [u8], input: Input) -> Next {
+fn take(source: &mut impl Read, buffer: &mut [u8], input: Input) -> io::Result<Next> {
     let at = input.at;
     let end = input.end;
     if at < end {
-        return Next::Byte(basics::byte_at(buffer, at), Input { at: at + 1, end });
+        return Ok(Next::Byte(basics::byte_at(buffer, at), Input { at: at + 1, end }));
     }
-    let got = libc::read(libc::STDIN_FILENO, buffer);
-    if got <= 0 {
-        return Next::End;
+    let end = source.read(buffer)?;
+    if end == 0 {
+        return Ok(Next::End);
     }
-    let end = io::count(got, buffer);
-    Next::Byte(basics::byte_at(buffer, 0), Input { at: 1, end })
+    Ok(Next::Byte(basics::byte_at(buffer, 0), Input { at: 1, end }))
 }
 
 // A byte more, with n bytes of its line kept. What a line has past the room for it is dropped.
@@ -57,38 +59,35 @@ fn keep(text: &mut [u8], n: usize, byte: u8) -> usize
 }
 
 // Reads a line. The count of turns is there because every loop must end: no line has so many bytes.
-pub fn read_line(text: &mut [u8], buffer: &mut [u8], input: Input) -> Line
-    ensures { result.length ≤ length text.new }
+pub fn read_line(
+    source: &mut impl Read,
+    text: &mut [u8],
+    buffer: &mut [u8],
+    input: Input,
+) -> io::Result<Line>
+    ensures { IfOk result (λ line. line.length ≤ length text.new) }
 {
     let mut n = 0;
     let mut input = input;
-    let mut turns = u64::MAX;
-    while 0 < turns {
-        match take(buffer, input) {
+    for _ in 0..u64::MAX {
+        match take(source, buffer, input)? {
             Next::Byte(byte, rest) => {
                 input = rest;
                 if byte == b'\n' {
-                    return Line {
+                    return Ok(Line {
                         length: n,
                         ended: true,
                         input,
-                    };
+                    });
                 }
                 n = keep(text, n, byte);
             }
-            Next::End => {
-                return Line {
-                    length: n,
-                    ended: false,
-                    input,
-                };
-            }
+            Next::End => break,
         }
-        turns -= 1;
     }
-    Line {
+    Ok(Line {
         length: n,
         ended: false,
         input,
-    }
+    })
 }

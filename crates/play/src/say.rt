@@ -1,16 +1,16 @@
 // What is written to standard output.
 ghost use Rattle.std.specs.Prelude.{◌≤◌, length};
 
-use libc::STDOUT_FILENO;
 use packet::Refusal;
 use services::Verdict;
+use std::io;
 
-pub fn text(bytes: &[u8]) {
-    io::write_all(STDOUT_FILENO, bytes);
+pub fn text(rt: &impl Print, bytes: &[u8]) -> io::Result<()> {
+    rt.write_all(bytes)
 }
 
-pub fn number(n: usize) {
-    io::print_decimal(STDOUT_FILENO, n as u64);
+pub fn number(rt: &impl Print, n: usize) -> io::Result<()> {
+    print!(rt; "{n}")
 }
 
 fn high_digit(byte: u8) -> u8 {
@@ -22,7 +22,7 @@ fn low_digit(byte: u8) -> u8 {
 }
 
 // Up to 64 bytes in hex, as one piece of a line.
-fn piece(bytes: &[u8])
+fn piece(rt: &impl Print, bytes: &[u8]) -> io::Result<()>
     requires { length bytes.now ≤ 64 }
 {
     let mut digits = [0u8; 128];
@@ -32,79 +32,88 @@ fn piece(bytes: &[u8])
         digits[2 * i + 1] = low_digit(bytes[i]);
         i += 1;
     }
-    text(&digits[..2 * i]);
+    text(rt, &digits[..2 * i])
 }
 
 // Bytes in hex.
-pub fn hex(bytes: &[u8]) {
+pub fn hex(rt: &impl Print, bytes: &[u8]) -> io::Result<()> {
     let mut at = 0;
     while 64 < bytes.len() - at {
         let end = at + 64;
-        piece(&bytes[at..end]);
+        piece(rt, &bytes[at..end])?;
         at = end;
     }
-    piece(&bytes[at..]);
+    piece(rt, &bytes[at..])
 }
 
 // A number of four bytes as 0x and eight digits.
-pub fn word(n: u32) {
-    text(b"0x");
-    hex(&[
-        (n / 16777216 % 256) as u8,
-        (n / 65536 % 256) as u8,
-        (n / 256 % 256) as u8,
-        (n % 256) as u8,
-    ]);
+pub fn word(rt: &impl Print, n: u32) -> io::Result<()> {
+    text(rt, b"0x")?;
+    hex(
+        rt,
+        &[
+            (n / 16777216 % 256) as u8,
+            (n / 65536 % 256) as u8,
+            (n / 256 % 256) as u8,
+            (n % 256) as u8,
+        ],
+    )
 }
 
 // Bytes in hex as a line.
-pub fn line(bytes: &[u8]) {
-    hex(bytes);
-    text(b"\n");
+pub fn line(rt: &impl Print, bytes: &[u8]) -> io::Result<()> {
+    hex(rt, bytes)?;
+    text(rt, b"\n")
 }
 
-pub fn ok() {
-    text(b"ok\n");
+pub fn ok(rt: &impl Print) -> io::Result<()> {
+    text(rt, b"ok\n")
 }
 
 // Why a key was turned down, in words.
-pub fn reason(number: u8) {
+pub fn reason(rt: &impl Print, number: u8) -> io::Result<()> {
     match number {
-        1 => text(b" bad type"),
-        2 => text(b" bad size"),
-        3 => text(b" second master"),
-        4 => text(b" store full"),
-        5 => text(b" not stored"),
-        6 => text(b" locked"),
-        7 => text(b" no master"),
-        8 => text(b" not loaded"),
-        _ => {}
+        1 => text(rt, b" bad type"),
+        2 => text(rt, b" bad size"),
+        3 => text(rt, b" second master"),
+        4 => text(rt, b" store full"),
+        5 => text(rt, b" not stored"),
+        6 => text(rt, b" locked"),
+        7 => text(rt, b" no master"),
+        8 => text(rt, b" not loaded"),
+        _ => Ok(()),
     }
 }
 
 // The line of a call: a word, the bytes that it wrote and why a key was turned down, or the number of its refusal.
-pub fn outcome(verdict: Verdict, word: &[u8], message: &[u8], why: u8) {
+pub fn outcome(
+    rt: &impl Print,
+    verdict: Verdict,
+    word: &[u8],
+    message: &[u8],
+    why: u8,
+) -> io::Result<()> {
     match verdict {
         Verdict::Taken => {
-            text(word);
-            hex(message);
-            reason(why);
-            text(b"\n");
+            text(rt, word)?;
+            hex(rt, message)?;
+            reason(rt, why)?;
+            text(rt, b"\n")
         }
-        Verdict::Refused(refusal) => refused(refusal),
+        Verdict::Refused(refusal) => refused(rt, refusal),
     }
 }
 
-pub fn refused(refusal: Refusal) {
-    text(b"refused ");
-    number(packet::number(refusal) as usize);
-    text(b"\n");
+pub fn refused(rt: &impl Print, refusal: Refusal) -> io::Result<()> {
+    text(rt, b"refused ")?;
+    number(rt, packet::number(refusal) as usize)?;
+    text(rt, b"\n")
 }
 
-pub fn made(stores: usize, left: usize) {
-    text(b"made ");
-    number(stores);
-    text(b" left ");
-    number(left);
-    text(b"\n");
+pub fn made(rt: &impl Print, stores: usize, left: usize) -> io::Result<()> {
+    text(rt, b"made ")?;
+    number(rt, stores)?;
+    text(rt, b" left ")?;
+    number(rt, left)?;
+    text(rt, b"\n")
 }

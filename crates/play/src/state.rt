@@ -1,79 +1,80 @@
 // The device's state, as a line for people.
 use crate::say;
 use device::{Head, Mode, fields, places};
+use std::io;
 
 // A job: the sectors that it has recorded, and the stores made in the next one.
-fn job(recorded: u32, made: u8) {
-    say::text(b", recorded ");
-    say::number(recorded as usize);
-    say::text(b", made ");
-    say::number(made as usize);
+fn job(rt: &impl Print, recorded: u32, made: u8) -> io::Result<()> {
+    say::text(rt, b", recorded ")?;
+    say::number(rt, recorded as usize)?;
+    say::text(rt, b", made ")?;
+    say::number(rt, made as usize)
 }
 
 // Which program runs, or which job.
-fn mode(mode: Mode, made: u8) {
+fn mode(rt: &impl Print, mode: Mode, made: u8) -> io::Result<()> {
     match mode {
-        Mode::Stack => say::text(b"stack runs"),
-        Mode::Idle => say::text(b"FUS idle"),
+        Mode::Stack => say::text(rt, b"stack runs"),
+        Mode::Idle => say::text(rt, b"FUS idle"),
         Mode::Upgrade {
             p: _,
             size: _,
             version: _,
             recorded,
         } => {
-            say::text(b"upgrade");
-            job(recorded, made);
+            say::text(rt, b"upgrade")?;
+            job(rt, recorded, made)
         }
         Mode::Delete { recorded } => {
-            say::text(b"delete");
-            job(recorded, made);
+            say::text(rt, b"delete")?;
+            job(rt, recorded, made)
         }
     }
 }
 
 // A number that may be missing.
-fn word_or_none(there: bool, n: u32) {
+fn word_or_none(rt: &impl Print, there: bool, n: u32) -> io::Result<()> {
     if there {
-        say::word(n);
+        say::word(rt, n)
     } else {
-        say::text(b"none");
+        say::text(rt, b"none")
     }
 }
 
 // A byte of which 0 means none.
-fn number_or_none(n: u8) {
+fn number_or_none(rt: &impl Print, n: u8) -> io::Result<()> {
     if n == 0 {
-        say::text(b"none");
+        say::text(rt, b"none")
     } else {
-        say::number(n as usize);
+        say::number(rt, n as usize)
     }
 }
 
-fn error(code: u8) {
+fn error(rt: &impl Print, code: u8) -> io::Result<()> {
     if code == 0 {
-        say::text(b"none");
+        say::text(rt, b"none")
     } else {
-        say::text(b"0x");
-        say::hex(&[code]);
+        say::text(rt, b"0x")?;
+        say::hex(rt, &[code])
     }
 }
 
-fn head(h: Head) {
+fn head(rt: &impl Print, h: Head) -> io::Result<()> {
     let runs = h.mode;
-    mode(runs, h.made);
-    say::text(b", boundary ");
-    say::number(h.boundary as usize);
-    say::text(b", version ");
-    word_or_none(h.present, h.version);
-    say::text(b", keys ");
-    say::number(h.count as usize);
-    say::text(b", loaded ");
-    number_or_none(h.loaded);
-    say::text(b", error ");
-    error(h.error);
-    say::text(b", floor ");
-    word_or_none(h.rollback, h.floor);
-    say::text(b"\n");
+    mode(rt, runs, h.made)?;
+    say::text(rt, b", boundary ")?;
+    say::number(rt, h.boundary as usize)?;
+    say::text(rt, b", version ")?;
+    word_or_none(rt, h.present, h.version)?;
+    say::text(rt, b", keys ")?;
+    say::number(rt, h.count as usize)?;
+    say::text(rt, b", loaded ")?;
+    number_or_none(rt, h.loaded)?;
+    say::text(rt, b", error ")?;
+    error(rt, h.error)?;
+    say::text(rt, b", floor ")?;
+    word_or_none(rt, h.rollback, h.floor)?;
+    say::text(rt, b"\n")
 }
 
 // Is there a job?
@@ -84,8 +85,9 @@ pub fn has_job(rec: &[u8]) -> bool {
     false
 }
 
-pub fn show(rec: &[u8]) {
+pub fn show(rt: &impl Print, rec: &[u8]) -> io::Result<()> {
     if rec.len() == places::LENGTH {
-        head(fields::read_head(rec));
+        return head(rt, fields::read_head(rec));
     }
+    Ok(())
 }
