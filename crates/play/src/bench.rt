@@ -29,12 +29,10 @@ pub fn dump(rt: &impl Print, flash: &[u8], t: usize) -> io::Result<()> {
 
 // Whether every byte is 0xFF.
 fn is_erased(part: &[u8]) -> bool {
-    let mut i = 0;
-    while i < part.len() {
-        if part[i] != 0xFF {
+    for byte in part {
+        if *byte != 0xFF {
             return false;
         }
-        i += 1;
     }
     true
 }

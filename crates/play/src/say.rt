@@ -26,24 +26,19 @@ fn piece(rt: &impl Print, bytes: &[u8]) -> io::Result<()>
     requires { length bytes.now ≤ 64 }
 {
     let mut digits = [0u8; 128];
-    let mut i = 0;
-    while i < bytes.len() {
-        digits[2 * i] = high_digit(bytes[i]);
-        digits[2 * i + 1] = low_digit(bytes[i]);
-        i += 1;
+    for (i, byte) in bytes.iter().enumerate() {
+        digits[2 * i] = high_digit(*byte);
+        digits[2 * i + 1] = low_digit(*byte);
     }
-    text(rt, &digits[..2 * i])
+    text(rt, &digits[..2 * bytes.len()])
 }
 
 // Bytes in hex.
 pub fn hex(rt: &impl Print, bytes: &[u8]) -> io::Result<()> {
-    let mut at = 0;
-    while 64 < bytes.len() - at {
-        let end = at + 64;
-        piece(rt, &bytes[at..end])?;
-        at = end;
+    for part in bytes.chunks(64) {
+        piece(rt, part)?;
     }
-    piece(rt, &bytes[at..])
+    Ok(())
 }
 
 // A number of four bytes as 0x and eight digits.
