@@ -1,9 +1,8 @@
-use Prim.Native.Nat.{ℕ, ◌+◌, ◌*◌, ◌/◌, ◌%◌, ◌-◌, ◌≤◌, ◌<◌}
-use mathlib.Core.Path.{◌≡◌, refl, sym, ap, subst, ◌∙◌}
+use Prim.Native.Nat.{ℕ, ◌+◌, ◌*◌, ◌/◌, ◌≤◌, ◌<◌}
+use mathlib.Core.Path.{◌≡◌, sym, ap, subst, ◌∙◌}
 use mathlib.Core.List.{List, ◌∷◌, ◌++◌, append-nil}
 use native.Mathlib.Omega.{arith}
 use lib.ListN.{length, take, drop, get_or, length-set, drop_of_length-le}
-use borrow.Author.Rules.{rules}
 use borrow.Author.Tests.{lt-ltb, le-ltb}
 use Rattle.line.specs.Hex.{nibble_of, are_pairs, bytes_of}
 use Rattle.line.proofs.Pairs.{odd_no, first_bad, second_bad, both_good, one_more, stored}
@@ -20,24 +19,24 @@ use Rattle.line.proofs.decode.Goals as goal
 
 pub returns-then-n-ne0 : goal.returns-then-n-ne0
 returns-then-n-ne0 c =
-     record {
-  pairs = sym (odd_no c.args.line.now c.if-n-ne0.true);
-  bytes = λ e. cc;
-}
+    record {
+      pairs = sym (odd_no c.args.line.now c.if-n-ne0.true);
+      bytes = λ e. cc;
+    }
 
 pub returns-then-a-ge16 : goal.returns-then-a-ge16
 returns-then-a-ge16 c =
-     record {
-  pairs = sym (c.loop-i.invariant.4 ∙ first_bad c.args.line.now c.loop-i.i (omega arith) (le-ltb _ _ (subst (λ (x : ℕ). 16 ≤ x) c.nibble-a.ensures.value c.if-a-ge16.true)));
-  bytes = λ e. cc;
-}
+    record {
+      pairs = sym (c.loop-i.invariant.4 ∙ first_bad c.args.line.now c.loop-i.i (omega arith) (le-ltb _ _ (subst (λ (x : ℕ). 16 ≤ x) c.nibble-a.ensures.value c.if-a-ge16.true)));
+      bytes = λ e. cc;
+    }
 
 pub returns-then-b-ge16 : goal.returns-then-b-ge16
 returns-then-b-ge16 c =
-     record {
-  pairs = sym (c.loop-i.invariant.4 ∙ second_bad c.args.line.now c.loop-i.i (omega arith) (lt-ltb _ _ (subst (λ (x : ℕ). x < 16) c.nibble-a.ensures.value c.if-a-ge16.false)) (le-ltb _ _ (subst (λ (x : ℕ). 16 ≤ x) c.nibble-b.ensures.value c.if-b-ge16.true)));
-  bytes = λ e. cc;
-}
+    record {
+      pairs = sym (c.loop-i.invariant.4 ∙ second_bad c.args.line.now c.loop-i.i (omega arith) (lt-ltb _ _ (subst (λ (x : ℕ). x < 16) c.nibble-a.ensures.value c.if-a-ge16.false)) (le-ltb _ _ (subst (λ (x : ℕ). 16 ≤ x) c.nibble-b.ensures.value c.if-b-ge16.true)));
+      bytes = λ e. cc;
+    }
 
 pub loop-i-preserved : goal.loop-i-preserved
 loop-i-preserved c =
@@ -62,7 +61,7 @@ returns c =
     let line : List ℕ = c.args.line.now in
     let i : ℕ = c.loop-i.i in
     let none = drop_of_length-le line {i = 2 * i} (omega arith) in
-    let half : i ≡ length line / 2 = omega arith in  record {
-  pairs = sym (c.loop-i.invariant.4 ∙ ap are_pairs none);
-  bytes = λ e. sym (c.loop-i.invariant.5 ∙ ap (λ (l : List ℕ). take i c.loop-i.out ++ bytes_of l) none ∙ append-nil (take i c.loop-i.out) ∙ ap (λ (k : ℕ). take k c.loop-i.out) half);
-}
+    let half : i ≡ length line / 2 = omega arith in record {
+      pairs = sym (c.loop-i.invariant.4 ∙ ap are_pairs none);
+      bytes = λ e. sym (c.loop-i.invariant.5 ∙ ap (λ (l : List ℕ). take i c.loop-i.out ++ bytes_of l) none ∙ append-nil (take i c.loop-i.out) ∙ ap (λ (k : ℕ). take k c.loop-i.out) half);
+    }

@@ -1,12 +1,8 @@
-use Prim.Native.Nat.{ℕ, ◌+◌, ◌*◌, ◌/◌, ◌%◌, ◌-◌, ◌≤◌, ◌<◌}
-use mathlib.Core.Path.{◌≡◌, refl, sym, ap, subst, ◌∙◌}
-use mathlib.Core.List.{List, ◌∷◌, ◌++◌, append-nil}
-use native.Mathlib.Omega.{arith}
-use lib.ListN.{length, take, drop, get_or, length-set, drop_of_length-le}
-use borrow.Author.Rules.{rules}
-use borrow.Author.Tests.{lt-ltb, le-ltb}
-use Rattle.line.specs.Hex.{nibble_of, are_pairs, bytes_of}
-use Rattle.line.proofs.Pairs.{odd_no, first_bad, second_bad, both_good, one_more, stored}
+use Prim.Native.Nat.{◌*◌, ◌/◌, ◌%◌, ◌-◌, ◌≤◌}
+use mathlib.Core.Path.{◌≡◌}
+use mathlib.Core.List.{◌++◌}
+use lib.ListN.{length, take, drop}
+use Rattle.line.specs.Hex.{are_pairs, bytes_of}
 use Rattle.line.proofs.decode.Given as goal
 
 abbrev pub invariant-loop-i : goal.invariant-loop-i

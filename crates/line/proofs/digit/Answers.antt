@@ -1,4 +1,3 @@
-use borrow.Author.Rules.{rules}
 use Rattle.basics.specs.Choice.{cases}
 use Rattle.line.proofs.digit.Goals as goal
 
