@@ -1,5 +1,5 @@
 // A file read whole, and a new file written whole or not at all.
-ghost use Rattle.std.specs.Prelude.{◌≡◌, ◌≤◌, IfOk, length};
+ghost use Rattle.std.specs.Prelude.{◌≡◌, ◌≤◌, IfOk, OnErr, length};
 
 use crate::messages;
 use crate::messages::NAME;
@@ -93,7 +93,8 @@ pub fn read(
     which: usize,
     room: &mut [u8],
 ) -> io::Result<Got>
-    ensures { IfOk result (λ got. got.n ≤ length room.new) }
+    ensures ok { IfOk result (λ got. got.n ≤ length room.new) }
+    ensures err { OnErr result (length room.new ≡ length room.old) }
 {
     let mut name = [0u8; NAME];
     match messages::argument(rt, which, &mut name) {

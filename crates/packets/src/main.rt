@@ -1,7 +1,7 @@
 // Reads one packet a line in hex from standard input, and writes for each line its answer.
 #![tactic(auto)]
 
-ghost use Rattle.std.specs.Prelude.{◌≤◌, IfOk, length};
+ghost use Rattle.std.specs.Prelude.{◌≡◌, ◌≤◌, IfOk, OnErr, length};
 
 use std::io;
 use std::io::Read;
@@ -27,7 +27,8 @@ fn say(rt: &impl Print, text: &[u8]) -> io::Result<()> {
 // One byte more of the input, with n bytes of its line kept. What a line has past the room for it is dropped.
 fn step(rt: &impl Print, text: &mut [u8], n: usize, b: u8) -> io::Result<usize>
     requires { n ≤ length text.old }
-    ensures { IfOk result (λ kept. kept ≤ length text.new) }
+    ensures ok { IfOk result (λ kept. kept ≤ length text.new) }
+    ensures err { OnErr result (length text.new ≡ length text.old) }
 {
     if b == b'\n' {
         say(rt, &text[..n])?;
@@ -43,7 +44,8 @@ fn step(rt: &impl Print, text: &mut [u8], n: usize, b: u8) -> io::Result<usize>
 // A chunk more of the input.
 fn feed(rt: &impl Print, text: &mut [u8], start: usize, chunk: &[u8]) -> io::Result<usize>
     requires { start ≤ length text.old }
-    ensures { IfOk result (λ kept. kept ≤ length text.new) }
+    ensures ok { IfOk result (λ kept. kept ≤ length text.new) }
+    ensures err { OnErr result (length text.new ≡ length text.old) }
 {
     let mut n = start;
     for b in chunk {
@@ -55,7 +57,8 @@ fn feed(rt: &impl Print, text: &mut [u8], start: usize, chunk: &[u8]) -> io::Res
 // Reads a chunk and answers the lines that end in it.
 fn read_chunk(rt: &impl Print, input: &mut impl Read, text: &mut [u8], n: usize) -> io::Result<Turn>
     requires { n ≤ length text.old }
-    ensures { IfOk result (λ turn. turn.kept ≤ length text.new) }
+    ensures ok { IfOk result (λ turn. turn.kept ≤ length text.new) }
+    ensures err { OnErr result (length text.new ≡ length text.old) }
 {
     let mut buffer = [0u8; 4096];
     let got = input.read(&mut buffer)?;

@@ -1,5 +1,5 @@
 // Standard input, line by line.
-ghost use Rattle.std.specs.Prelude.{◌≤◌, IfOk, length};
+ghost use Rattle.std.specs.Prelude.{◌≡◌, ◌≤◌, IfOk, OnErr, length};
 
 use std::io;
 use std::io::Read;
@@ -65,7 +65,8 @@ pub fn read_line(
     buffer: &mut [u8],
     input: Input,
 ) -> io::Result<Line>
-    ensures { IfOk result (λ line. line.length ≤ length text.new) }
+    ensures ok { IfOk result (λ line. line.length ≤ length text.new) }
+    ensures err { OnErr result (length text.new ≡ length text.old) }
 {
     let mut n = 0;
     let mut input = input;
