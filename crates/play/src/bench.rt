@@ -23,7 +23,7 @@ fn sector(flash: &[u8], t: usize) -> &[u8] {
     &flash[..0]
 }
 
-pub fn dump(rt: &impl Print, flash: &[u8], t: usize) -> io::Result<()> {
+pub fn dump(rt: &impl Print, flash: &[u8], t: usize) {
     say::line(rt, sector(flash, t))
 }
 
@@ -52,7 +52,7 @@ fn character(part: &[u8]) -> u8 {
 }
 
 // One character a sector.
-pub fn map(rt: &impl Print, flash: &[u8]) -> io::Result<()> {
+pub fn map(rt: &impl Print, flash: &[u8]) {
     let mut characters = [b'\n'; Device::SECTOR_COUNT + 1];
     for t in 0..Device::SECTOR_COUNT {
         characters[t] = character(sector(flash, t));
@@ -74,18 +74,18 @@ pub fn fill(flash: &mut [u8], t: usize, byte: u8) {
 }
 
 // Which sectors n bytes stand in.
-fn loaded(rt: &impl Print, n: usize, from: usize, to: usize) -> io::Result<()> {
-    say::text(rt, b"loaded ")?;
-    say::number(rt, n)?;
-    say::text(rt, b" bytes in sectors ")?;
-    say::number(rt, from)?;
-    say::text(rt, b" to ")?;
-    say::number(rt, to)?;
+fn loaded(rt: &impl Print, n: usize, from: usize, to: usize) {
+    say::text(rt, b"loaded ");
+    say::number(rt, n);
+    say::text(rt, b" bytes in sectors ");
+    say::number(rt, from);
+    say::text(rt, b" to ");
+    say::number(rt, to);
     say::text(rt, b"\n")
 }
 
 // The bytes of a file go into flash from a sector's first byte on, if they fit.
-fn put(rt: &impl Print, flash: &mut [u8], t: usize, bytes: &[u8]) -> io::Result<()> {
+fn put(rt: &impl Print, flash: &mut [u8], t: usize, bytes: &[u8]) {
     if bytes.len() == 0 {
         return say::text(rt, b"bad file: empty\n");
     }
@@ -140,7 +140,7 @@ fn read_file(file: &mut impl Read, bytes: &mut [u8]) -> io::Result<Got>
 }
 
 // Reads an open file to its end, before a byte of flash is changed.
-fn read(rt: &impl Print, flash: &mut [u8], t: usize, file: &mut impl Read) -> io::Result<()> {
+fn read(rt: &impl Print, flash: &mut [u8], t: usize, file: &mut impl Read) {
     let mut bytes = room();
     match read_file(file, &mut bytes) {
         Ok(got) => {
@@ -162,7 +162,7 @@ fn open<R: Files>(rt: &R, name: &[u8]) -> io::Result<R::File> {
 }
 
 // Loads the file with this name.
-pub fn load(rt: &(impl Files + Print), flash: &mut [u8], t: usize, name: &[u8]) -> io::Result<()> {
+pub fn load(rt: &(impl Files + Print), flash: &mut [u8], t: usize, name: &[u8]) {
     match open(rt, name) {
         Ok(mut file) => read(rt, flash, t, &mut file),
         Err(_) => say::text(rt, b"bad file: cannot be opened\n"),

@@ -1,7 +1,6 @@
 // Standard input, line by line.
-ghost use Rattle.std.specs.Prelude.{◌≡◌, ◌≤◌, IfOk, OnErr, length};
+ghost use Rattle.std.specs.Prelude.{◌≤◌, length};
 
-use std::io;
 use std::io::Read;
 
 // Room for one byte more than the longest line that is read: a line that fills it is too long.
@@ -33,17 +32,19 @@ enum Next {
 }
 
 // The next byte of the input; where the buffer is empty, it is filled first.
-fn take(source: &mut impl Read, buffer: &mut [u8], input: Input) -> io::Result<Next> {
+fn take(source: &mut impl Read, buffer: &mut [u8], input: Input) -> Next {
     let at = input.at;
     let end = input.end;
     if at < end {
-        return Ok(Next::Byte(basics::byte_at(buffer, at), Input { at: at + 1, end }));
+        return Next::Byte(basics::byte_at(buffer, at), Input { at: at + 1, end });
     }
-    let end = source.read(buffer)?;
+    let Ok(end) = source.read(buffer) else {
+        return Next::End;
+    };
     if end == 0 {
-        return Ok(Next::End);
+        return Next::End;
     }
-    Ok(Next::Byte(basics::byte_at(buffer, 0), Input { at: 1, end }))
+    Next::Byte(basics::byte_at(buffer, 0), Input { at: 1, end })
 }
 
 // A byte more, with n bytes of its line kept. What a line has past the room for it is dropped.
@@ -59,36 +60,30 @@ fn keep(text: &mut [u8], n: usize, byte: u8) -> usize
 }
 
 // Reads a line. The count of turns is there because every loop must end: no line has so many bytes.
-pub fn read_line(
-    source: &mut impl Read,
-    text: &mut [u8],
-    buffer: &mut [u8],
-    input: Input,
-) -> io::Result<Line>
-    ensures ok { IfOk result (λ line. line.length ≤ length text.new) }
-    ensures err { OnErr result (length text.new ≡ length text.old) }
+pub fn read_line(source: &mut impl Read, text: &mut [u8], buffer: &mut [u8], input: Input) -> Line
+    ensures { result.length ≤ length text.new }
 {
     let mut n = 0;
     let mut input = input;
     for _ in 0..u64::MAX {
-        match take(source, buffer, input)? {
+        match take(source, buffer, input) {
             Next::Byte(byte, rest) => {
                 input = rest;
                 if byte == b'\n' {
-                    return Ok(Line {
+                    return Line {
                         length: n,
                         ended: true,
                         input,
-                    });
+                    };
                 }
                 n = keep(text, n, byte);
             }
             Next::End => break,
         }
     }
-    Ok(Line {
+    Line {
         length: n,
         ended: false,
         input,
-    })
+    }
 }

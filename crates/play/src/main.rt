@@ -11,18 +11,11 @@ use device::Device;
 use device::places::LENGTH;
 use input::Input;
 use script::{Fault, Order};
-use std::io;
 use std::io::Read;
 use std::rt::Files;
 
 // A packet to the device.
-fn packet(
-    rt: &impl Print,
-    rec: &mut [u8],
-    flash: &mut [u8],
-    line: &[u8],
-    hex: usize,
-) -> io::Result<()> {
+fn packet(rt: &impl Print, rec: &mut [u8], flash: &mut [u8], line: &[u8], hex: usize) {
     let mut bytes = [0u8; 260];
     let n = script::packet_bytes(line, hex, &mut bytes);
     let mut reply = [0u8; 8];
@@ -38,46 +31,33 @@ fn packet(
 }
 
 // What the device sends for a byte.
-fn say_sent(rt: &impl Print, out: &[u8], sent: usize) -> io::Result<()> {
+fn say_sent(rt: &impl Print, out: &[u8], sent: usize) {
     if sent <= out.len() {
         return say::hex(rt, &out[..sent]);
     }
-    Ok(())
 }
 
 // One byte on the serial line: what the device sends for it is written, and the reason beside it is answered.
-fn line_byte(
-    rt: &impl Print,
-    rec: &mut [u8],
-    flash: &mut [u8],
-    reader: &mut [u8],
-    byte: u8,
-) -> io::Result<u8> {
+fn line_byte(rt: &impl Print, rec: &mut [u8], flash: &mut [u8], reader: &mut [u8], byte: u8) -> u8 {
     let mut out = [0u8; 10];
     let mut sent = 0;
     let mut reason = 0;
     serial::byte(rec, flash, reader, byte, &mut out, &mut sent, &mut reason);
-    say_sent(rt, &out, sent as usize)?;
-    Ok(reason)
+    say_sent(rt, &out, sent as usize);
+    reason
 }
 
 // Bytes on the serial line, one after another: all that the device sends, and why a key was turned down last.
-fn feed(
-    rt: &impl Print,
-    rec: &mut [u8],
-    flash: &mut [u8],
-    reader: &mut [u8],
-    bytes: &[u8],
-) -> io::Result<()> {
+fn feed(rt: &impl Print, rec: &mut [u8], flash: &mut [u8], reader: &mut [u8], bytes: &[u8]) {
     let mut why = 0;
-    say::text(rt, b"sent ")?;
+    say::text(rt, b"sent ");
     for byte in bytes {
-        let reason = line_byte(rt, rec, flash, reader, *byte)?;
+        let reason = line_byte(rt, rec, flash, reader, *byte);
         if reason != 0 {
             why = reason;
         }
     }
-    say::reason(rt, why)?;
+    say::reason(rt, why);
     say::text(rt, b"\n")
 }
 
@@ -88,26 +68,20 @@ fn serial(
     reader: &mut [u8],
     line: &[u8],
     hex: usize,
-) -> io::Result<()> {
+) {
     let mut bytes = [0u8; 260];
     let n = script::packet_bytes(line, hex, &mut bytes);
     feed(rt, rec, flash, reader, &bytes[..n])
 }
 
-fn restart(rt: &impl Print, rec: &mut [u8]) -> io::Result<()> {
+fn restart(rt: &impl Print, rec: &mut [u8]) {
     let mut event = [0u8; 6];
     let verdict = services::restart(rec, &mut event);
     say::outcome(rt, verdict, b"event ", &event, 0)
 }
 
 // The power is cut in the next store.
-fn cut(
-    rt: &impl Print,
-    rec: &mut [u8],
-    flash: &mut [u8],
-    filler: u8,
-    through: bool,
-) -> io::Result<()> {
+fn cut(rt: &impl Print, rec: &mut [u8], flash: &mut [u8], filler: u8, through: bool) {
     let mut event = [0u8; 6];
     let filler = [filler; Device::SECTOR_SIZE];
     let verdict = services::cut(rec, flash, &filler, through, &mut event);
@@ -116,7 +90,7 @@ fn cut(
 
 // Up to `stores` stores, while one is left. (A job has at least one. Work is not refused here: the record stays sound, and the flash has its
 // length.)
-fn work(rt: &impl Print, rec: &mut [u8], flash: &mut [u8], stores: usize) -> io::Result<()> {
+fn work(rt: &impl Print, rec: &mut [u8], flash: &mut [u8], stores: usize) {
     let mut made = 0;
     let mut left = state::has_job(rec) as u32;
     while made < stores && 0 < left {
@@ -127,19 +101,19 @@ fn work(rt: &impl Print, rec: &mut [u8], flash: &mut [u8], stores: usize) -> io:
 }
 
 // The device, the flash and the line as at the start.
-fn fresh(rt: &impl Print, rec: &mut [u8], flash: &mut [u8], reader: &mut [u8]) -> io::Result<()> {
+fn fresh(rt: &impl Print, rec: &mut [u8], flash: &mut [u8], reader: &mut [u8]) {
     services::fresh(rec);
     sectors::fill(flash, 0xFF);
     serial::fresh(reader);
     say::ok(rt)
 }
 
-fn fill(rt: &impl Print, flash: &mut [u8], sector: usize, byte: u8) -> io::Result<()> {
+fn fill(rt: &impl Print, flash: &mut [u8], sector: usize, byte: u8) {
     bench::fill(flash, sector, byte);
     say::ok(rt)
 }
 
-fn bad(rt: &impl Print, fault: Fault) -> io::Result<()> {
+fn bad(rt: &impl Print, fault: Fault) {
     match fault {
         Fault::LineLong => say::text(rt, b"bad line: over 4400 bytes\n"),
         Fault::NoOrder => say::text(rt, b"bad order: unknown\n"),
@@ -156,17 +130,10 @@ fn bad(rt: &impl Print, fault: Fault) -> io::Result<()> {
 }
 
 // Loads the file whose name stands in the line from an offset on.
-fn load(
-    rt: &(impl Files + Print),
-    flash: &mut [u8],
-    sector: usize,
-    line: &[u8],
-    file: usize,
-) -> io::Result<()> {
+fn load(rt: &(impl Files + Print), flash: &mut [u8], sector: usize, line: &[u8], file: usize) {
     if file <= line.len() {
         return bench::load(rt, flash, sector, &line[file..]);
     }
-    Ok(())
 }
 
 // Answers a line.
@@ -176,7 +143,7 @@ fn answer(
     flash: &mut [u8],
     reader: &mut [u8],
     line: &[u8],
-) -> io::Result<()> {
+) {
     match script::read(line) {
         Order::Nothing => say::ok(rt),
         Order::Packet { hex } => packet(rt, rec, flash, line, hex),
@@ -204,11 +171,10 @@ fn answer_read(
     reader: &mut [u8],
     line: &[u8],
     ended: bool,
-) -> io::Result<()> {
+) {
     if ended || 0 < line.len() {
         return answer(rt, rec, flash, reader, line);
     }
-    Ok(())
 }
 
 // Plays the script. The count of turns is there because every loop must end: no script has so many lines.
@@ -218,20 +184,19 @@ fn play(
     rec: &mut [u8],
     flash: &mut [u8],
     reader: &mut [u8],
-) -> io::Result<()> {
+) {
     let mut text = input::room();
     let mut buffer = [0u8; 4096];
     let mut input = Input { at: 0, end: 0 };
     for _ in 0..u64::MAX {
-        let line = input::read_line(source, &mut text, &mut buffer, input)?;
+        let line = input::read_line(source, &mut text, &mut buffer, input);
         let n = line.length;
-        answer_read(rt, rec, flash, reader, &text[..n], line.ended)?;
+        answer_read(rt, rec, flash, reader, &text[..n], line.ended);
         if !line.ended {
             break;
         }
         input = line.input;
     }
-    Ok(())
 }
 
 fn no_record() -> [u8; LENGTH] {
@@ -243,18 +208,13 @@ fn erased_flash() -> [u8; bench::FLASH] {
 }
 
 // A fresh device, and the script.
-fn start(
-    rt: &(impl Files + Print),
-    source: &mut impl Read,
-    rec: &mut [u8],
-    flash: &mut [u8],
-) -> io::Result<()> {
+fn start(rt: &(impl Files + Print), source: &mut impl Read, rec: &mut [u8], flash: &mut [u8]) {
     let mut reader = [0u8; serial::LENGTH];
     services::fresh(rec);
     play(rt, source, rec, flash, &mut reader)
 }
 
-fn main(rt: HostRuntime) -> io::Result<()> {
+fn main(rt: HostRuntime) {
     let mut rec = no_record();
     let mut flash = erased_flash();
     start(&rt, &mut rt.stdin(), &mut rec, &mut flash)

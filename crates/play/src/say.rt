@@ -3,14 +3,13 @@ ghost use Rattle.std.specs.Prelude.{◌≤◌, length};
 
 use packet::Refusal;
 use services::Verdict;
-use std::io;
 
-pub fn text(rt: &impl Print, bytes: &[u8]) -> io::Result<()> {
-    rt.write_all(bytes)
+pub fn text(rt: &impl Print, bytes: &[u8]) {
+    let _ = rt.write_all(bytes);
 }
 
-pub fn number(rt: &impl Print, n: usize) -> io::Result<()> {
-    print!(rt; "{n}")
+pub fn number(rt: &impl Print, n: usize) {
+    let _ = print!(rt; "{n}");
 }
 
 fn high_digit(byte: u8) -> u8 {
@@ -22,7 +21,7 @@ fn low_digit(byte: u8) -> u8 {
 }
 
 // Up to 64 bytes in hex, as one piece of a line.
-fn piece(rt: &impl Print, bytes: &[u8]) -> io::Result<()>
+fn piece(rt: &impl Print, bytes: &[u8])
     requires { length bytes.now ≤ 64 }
 {
     let mut digits = [0u8; 128];
@@ -34,16 +33,15 @@ fn piece(rt: &impl Print, bytes: &[u8]) -> io::Result<()>
 }
 
 // Bytes in hex.
-pub fn hex(rt: &impl Print, bytes: &[u8]) -> io::Result<()> {
+pub fn hex(rt: &impl Print, bytes: &[u8]) {
     for part in bytes.chunks(64) {
-        piece(rt, part)?;
+        piece(rt, part);
     }
-    Ok(())
 }
 
 // A number of four bytes as 0x and eight digits.
-pub fn word(rt: &impl Print, n: u32) -> io::Result<()> {
-    text(rt, b"0x")?;
+pub fn word(rt: &impl Print, n: u32) {
+    text(rt, b"0x");
     hex(
         rt,
         &[
@@ -56,17 +54,17 @@ pub fn word(rt: &impl Print, n: u32) -> io::Result<()> {
 }
 
 // Bytes in hex as a line.
-pub fn line(rt: &impl Print, bytes: &[u8]) -> io::Result<()> {
-    hex(rt, bytes)?;
+pub fn line(rt: &impl Print, bytes: &[u8]) {
+    hex(rt, bytes);
     text(rt, b"\n")
 }
 
-pub fn ok(rt: &impl Print) -> io::Result<()> {
+pub fn ok(rt: &impl Print) {
     text(rt, b"ok\n")
 }
 
 // Why a key was turned down, in words.
-pub fn reason(rt: &impl Print, number: u8) -> io::Result<()> {
+pub fn reason(rt: &impl Print, number: u8) {
     match number {
         1 => text(rt, b" bad type"),
         2 => text(rt, b" bad size"),
@@ -76,39 +74,33 @@ pub fn reason(rt: &impl Print, number: u8) -> io::Result<()> {
         6 => text(rt, b" locked"),
         7 => text(rt, b" no master"),
         8 => text(rt, b" not loaded"),
-        _ => Ok(()),
+        _ => {},
     }
 }
 
 // The line of a call: a word, the bytes that it wrote and why a key was turned down, or the number of its refusal.
-pub fn outcome(
-    rt: &impl Print,
-    verdict: Verdict,
-    word: &[u8],
-    message: &[u8],
-    why: u8,
-) -> io::Result<()> {
+pub fn outcome(rt: &impl Print, verdict: Verdict, word: &[u8], message: &[u8], why: u8) {
     match verdict {
         Verdict::Taken => {
-            text(rt, word)?;
-            hex(rt, message)?;
-            reason(rt, why)?;
+            text(rt, word);
+            hex(rt, message);
+            reason(rt, why);
             text(rt, b"\n")
         }
         Verdict::Refused(refusal) => refused(rt, refusal),
     }
 }
 
-pub fn refused(rt: &impl Print, refusal: Refusal) -> io::Result<()> {
-    text(rt, b"refused ")?;
-    number(rt, packet::number(refusal) as usize)?;
+pub fn refused(rt: &impl Print, refusal: Refusal) {
+    text(rt, b"refused ");
+    number(rt, packet::number(refusal) as usize);
     text(rt, b"\n")
 }
 
-pub fn made(rt: &impl Print, stores: usize, left: usize) -> io::Result<()> {
-    text(rt, b"made ")?;
-    number(rt, stores)?;
-    text(rt, b" left ")?;
-    number(rt, left)?;
+pub fn made(rt: &impl Print, stores: usize, left: usize) {
+    text(rt, b"made ");
+    number(rt, stores);
+    text(rt, b" left ");
+    number(rt, left);
     text(rt, b"\n")
 }

@@ -1,18 +1,17 @@
 // The device's state, as a line for people.
 use crate::say;
 use device::{Head, Mode, fields, places};
-use std::io;
 
 // A job: the sectors that it has recorded, and the stores made in the next one.
-fn job(rt: &impl Print, recorded: u32, made: u8) -> io::Result<()> {
-    say::text(rt, b", recorded ")?;
-    say::number(rt, recorded as usize)?;
-    say::text(rt, b", made ")?;
+fn job(rt: &impl Print, recorded: u32, made: u8) {
+    say::text(rt, b", recorded ");
+    say::number(rt, recorded as usize);
+    say::text(rt, b", made ");
     say::number(rt, made as usize)
 }
 
 // Which program runs, or which job.
-fn mode(rt: &impl Print, mode: Mode, made: u8) -> io::Result<()> {
+fn mode(rt: &impl Print, mode: Mode, made: u8) {
     match mode {
         Mode::Stack => say::text(rt, b"stack runs"),
         Mode::Idle => say::text(rt, b"FUS idle"),
@@ -22,18 +21,18 @@ fn mode(rt: &impl Print, mode: Mode, made: u8) -> io::Result<()> {
             version: _,
             recorded,
         } => {
-            say::text(rt, b"upgrade")?;
+            say::text(rt, b"upgrade");
             job(rt, recorded, made)
         }
         Mode::Delete { recorded } => {
-            say::text(rt, b"delete")?;
+            say::text(rt, b"delete");
             job(rt, recorded, made)
         }
     }
 }
 
 // A number that may be missing.
-fn word_or_none(rt: &impl Print, there: bool, n: u32) -> io::Result<()> {
+fn word_or_none(rt: &impl Print, there: bool, n: u32) {
     if there {
         say::word(rt, n)
     } else {
@@ -42,7 +41,7 @@ fn word_or_none(rt: &impl Print, there: bool, n: u32) -> io::Result<()> {
 }
 
 // A byte of which 0 means none.
-fn number_or_none(rt: &impl Print, n: u8) -> io::Result<()> {
+fn number_or_none(rt: &impl Print, n: u8) {
     if n == 0 {
         say::text(rt, b"none")
     } else {
@@ -50,30 +49,30 @@ fn number_or_none(rt: &impl Print, n: u8) -> io::Result<()> {
     }
 }
 
-fn error(rt: &impl Print, code: u8) -> io::Result<()> {
+fn error(rt: &impl Print, code: u8) {
     if code == 0 {
         say::text(rt, b"none")
     } else {
-        say::text(rt, b"0x")?;
+        say::text(rt, b"0x");
         say::hex(rt, &[code])
     }
 }
 
-fn head(rt: &impl Print, h: Head) -> io::Result<()> {
+fn head(rt: &impl Print, h: Head) {
     let runs = h.mode;
-    mode(rt, runs, h.made)?;
-    say::text(rt, b", boundary ")?;
-    say::number(rt, h.boundary as usize)?;
-    say::text(rt, b", version ")?;
-    word_or_none(rt, h.present, h.version)?;
-    say::text(rt, b", keys ")?;
-    say::number(rt, h.count as usize)?;
-    say::text(rt, b", loaded ")?;
-    number_or_none(rt, h.loaded)?;
-    say::text(rt, b", error ")?;
-    error(rt, h.error)?;
-    say::text(rt, b", floor ")?;
-    word_or_none(rt, h.rollback, h.floor)?;
+    mode(rt, runs, h.made);
+    say::text(rt, b", boundary ");
+    say::number(rt, h.boundary as usize);
+    say::text(rt, b", version ");
+    word_or_none(rt, h.present, h.version);
+    say::text(rt, b", keys ");
+    say::number(rt, h.count as usize);
+    say::text(rt, b", loaded ");
+    number_or_none(rt, h.loaded);
+    say::text(rt, b", error ");
+    error(rt, h.error);
+    say::text(rt, b", floor ");
+    word_or_none(rt, h.rollback, h.floor);
     say::text(rt, b"\n")
 }
 
@@ -85,9 +84,8 @@ pub fn has_job(rec: &[u8]) -> bool {
     false
 }
 
-pub fn show(rt: &impl Print, rec: &[u8]) -> io::Result<()> {
+pub fn show(rt: &impl Print, rec: &[u8]) {
     if rec.len() == places::LENGTH {
         return head(rt, fields::read_head(rec));
     }
-    Ok(())
 }
