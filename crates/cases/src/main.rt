@@ -4,7 +4,6 @@
 
 use device::{Device, Mode, places};
 use services::{Verdict, value};
-use std::io;
 
 // A row: the call (handle, restart, work, cut); the device (unsound; idle; its stack running; with a delete under way); how many bytes the reply
 // buffer lacks of 12, the flash and the filler of their lengths; the packet's first byte.
@@ -56,39 +55,33 @@ fn device(kind: u8) -> Device {
     Device { bytes }
 }
 
-fn say_if(rt: &impl Print, told: bool, text: &str) -> io::Result<()> {
+fn say_if(rt: &impl Print, told: bool, text: &str) {
     if told {
-        return print!(rt; "{text}");
+        let _ = print!(rt; "{text}");
     }
-    Ok(())
 }
 
-fn say_bytes(rt: &impl Print, bytes: &[u8]) -> io::Result<()> {
+fn say_bytes(rt: &impl Print, bytes: &[u8]) {
     for byte in bytes {
-        print!(rt; "{byte:02x}")?;
+        let _ = print!(rt; "{byte:02x}");
     }
-    Ok(())
 }
 
 // The call and its faults, and what it answers.
-fn say_answer(
-    rt: &impl Print,
-    call: &str,
-    row: [u8; 6],
-    verdict: Verdict,
-    reply: &[u8],
-) -> io::Result<()> {
-    print!(rt; "{call}")?;
-    say_if(rt, row[1] == b'u', ", record unsound")?;
-    say_if(rt, row[3] == 1, ", flash short")?;
-    say_if(rt, row[2] == 5 || row[2] == 7, ", reply short")?;
-    say_if(rt, row[4] == 1, ", filler short")?;
-    say_if(rt, row[5] == 0x11, ", packet damaged")?;
+fn say_answer(rt: &impl Print, call: &str, row: [u8; 6], verdict: Verdict, reply: &[u8]) {
+    let _ = print!(rt; "{call}");
+    say_if(rt, row[1] == b'u', ", record unsound");
+    say_if(rt, row[3] == 1, ", flash short");
+    say_if(rt, row[2] == 5 || row[2] == 7, ", reply short");
+    say_if(rt, row[4] == 1, ", filler short");
+    say_if(rt, row[5] == 0x11, ", packet damaged");
     match verdict {
-        Verdict::Taken => print!(rt; ": taken ")?,
+        Verdict::Taken => {
+            let _ = print!(rt; ": taken ");
+        }
         Verdict::Refused(refusal) => {
             let number = packet::number(refusal);
-            print!(rt; ": refused {number} ")?;
+            let _ = print!(rt; ": refused {number} ");
         }
     }
     say_bytes(rt, reply)
@@ -102,33 +95,33 @@ fn call(
     flash: &mut [u8],
     filler: &[u8],
     reply: &mut [u8],
-) -> io::Result<Device> {
+) -> Device {
     match row[0] {
         b'h' => {
             let done = value::handle(d, flash, &[row[5], 0x52, 0xFC, 0x00], reply);
             let verdict = done.verdict;
-            say_answer(rt, "handle", row, verdict, reply)?;
-            Ok(done.device)
+            say_answer(rt, "handle", row, verdict, reply);
+            done.device
         }
         b'r' => {
             let done = value::restart(d, reply);
             let verdict = done.verdict;
-            say_answer(rt, "restart", row, verdict, reply)?;
-            Ok(done.device)
+            say_answer(rt, "restart", row, verdict, reply);
+            done.device
         }
         b'w' => {
             let done = value::work(d, flash);
             let verdict = done.verdict;
-            say_answer(rt, "work", row, verdict, b"")?;
+            say_answer(rt, "work", row, verdict, b"");
             let left = done.left;
-            print!(rt; "{left}")?;
-            Ok(done.device)
+            let _ = print!(rt; "{left}");
+            done.device
         }
         _ => {
             let done = value::cut(d, flash, filler, true, reply);
             let verdict = done.verdict;
-            say_answer(rt, "cut", row, verdict, reply)?;
-            Ok(done.device)
+            say_answer(rt, "cut", row, verdict, reply);
+            done.device
         }
     }
 }
@@ -141,7 +134,7 @@ fn lend(
     flash: &mut [u8],
     filler: &[u8],
     reply: &mut [u8],
-) -> io::Result<Device> {
+) -> Device {
     let a = row[2] as usize;
     let b = row[3] as usize;
     let c = row[4] as usize;
@@ -152,7 +145,7 @@ fn lend(
             }
         }
     }
-    Ok(d)
+    d
 }
 
 // Whether each byte of the first is the second's, past whose end there are zeros.
@@ -165,38 +158,43 @@ fn same(a: &[u8], b: &[u8]) -> bool {
     true
 }
 
-fn say_device(rt: &impl Print, d: Device) -> io::Result<()> {
+fn say_device(rt: &impl Print, d: Device) {
     let h = d.head();
     let mode = h.mode;
     match mode {
-        Mode::Stack => print!(rt; ", stack runs")?,
-        Mode::Idle => print!(rt; ", FUS idle")?,
-        _ => print!(rt; ", delete")?,
+        Mode::Stack => {
+            let _ = print!(rt; ", stack runs");
+        }
+        Mode::Idle => {
+            let _ = print!(rt; ", FUS idle");
+        }
+        _ => {
+            let _ = print!(rt; ", delete");
+        }
     }
-    say_if(rt, h.asked, ", asked once")?;
+    say_if(rt, h.asked, ", asked once");
     say_if(rt, h.loaded == 1, ", key 1 loaded")
 }
 
 // The device after a call, and what changed; the flash was all zeros.
-fn say_changes(rt: &impl Print, before: Device, after: Device, now: &[u8]) -> io::Result<()> {
-    say_device(rt, after)?;
-    say_if(rt, !same(&before.bytes, &after.bytes), ", device changed")?;
-    say_if(rt, !same(now, b""), ", flash changed")?;
-    print!(rt; "\n")
+fn say_changes(rt: &impl Print, before: Device, after: Device, now: &[u8]) {
+    say_device(rt, after);
+    say_if(rt, !same(&before.bytes, &after.bytes), ", device changed");
+    say_if(rt, !same(now, b""), ", flash changed");
+    let _ = print!(rt; "\n");
 }
 
 // Runs a row, while a good response stands in the reply buffer, and writes its line.
-fn run(rt: &impl Print, row: [u8; 6]) -> io::Result<()> {
+fn run(rt: &impl Print, row: [u8; 6]) {
     let d = device(row[1]);
     let mut flash = flash();
     let mut reply = *b"\x11\x0E\x05\xFF\x52\xFC\x00\x00\xEE\xEE\xEE\xEE";
-    let after = lend(rt, row, d, &mut flash, &[0x5A; 4096], &mut reply)?;
+    let after = lend(rt, row, d, &mut flash, &[0x5A; 4096], &mut reply);
     say_changes(rt, d, after, &flash)
 }
 
-fn main(rt: HostRuntime) -> io::Result<()> {
+fn main(rt: HostRuntime) {
     for i in 0..19 {
-        run(&rt, ROWS[i])?;
+        run(&rt, ROWS[i]);
     }
-    Ok(())
 }
