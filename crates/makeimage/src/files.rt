@@ -65,24 +65,24 @@ fn read_or_say(
     must: &str,
     name: &[u8],
     room: &mut [u8],
-) -> io::Result<Got>
-    ensures { IfOk result (λ got. got.n ≤ length room.new) }
+) -> Got
+    ensures { result.n ≤ length room.new }
 {
     match read_file(rt, name, room) {
-        Ok(got) => Ok(got),
+        Ok(got) => got,
         Err(error) => not_read(errors, must, name, &error),
     }
 }
 
-fn not_read(errors: &impl Print, must: &str, name: &[u8], error: &io::Error) -> io::Result<Got>
-    ensures { IfOk result (λ got. got.n ≡ 0) }
+fn not_read(errors: &impl Print, must: &str, name: &[u8], error: &io::Error) -> Got
+    ensures { result.n ≡ 0 }
 {
-    messages::fail(errors, must, name, error)?;
-    Ok(Got {
+    messages::fail(errors, must, name, error);
+    Got {
         n: 0,
         more: false,
         failed: true,
-    })
+    }
 }
 
 // Reads the file that an argument names, as far as there is room.
@@ -92,9 +92,8 @@ pub fn read(
     must: &str,
     which: usize,
     room: &mut [u8],
-) -> io::Result<Got>
-    ensures ok { IfOk result (λ got. got.n ≤ length room.new) }
-    ensures err { OnErr result (length room.new ≡ length room.old) }
+) -> Got
+    ensures { result.n ≤ length room.new }
 {
     let mut name = [0u8; NAME];
     match messages::argument(rt, which, &mut name) {
@@ -135,21 +134,16 @@ fn write_or_say(
     must: &str,
     name: &[u8],
     parts: (&[u8], &[u8]),
-) -> io::Result<bool> {
+) -> bool {
     match write_file(rt, name, parts.0, parts.1) {
-        Ok(()) => Ok(true),
+        Ok(()) => true,
         Err(error) => not_written(errors, must, name, &error),
     }
 }
 
-fn not_written(
-    errors: &impl Print,
-    must: &str,
-    name: &[u8],
-    error: &io::Error,
-) -> io::Result<bool> {
-    messages::fail(errors, must, name, error)?;
-    Ok(false)
+fn not_written(errors: &impl Print, must: &str, name: &[u8], error: &io::Error) -> bool {
+    messages::fail(errors, must, name, error);
+    false
 }
 
 // Makes the file that an argument names, of two parts. Where that fails it is said, and no file is left.
@@ -159,7 +153,7 @@ pub fn write(
     must: &str,
     which: usize,
     parts: (&[u8], &[u8]),
-) -> io::Result<bool> {
+) -> bool {
     let mut name = [0u8; NAME];
     match messages::argument(rt, which, &mut name) {
         Ok(k) => write_or_say(rt, errors, must, &name[..k], parts),

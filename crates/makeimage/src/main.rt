@@ -11,7 +11,6 @@ use maker::version::Version;
 use maker::{Made, Unmade, Wanted, version};
 use messages::{Has, NAME};
 use std::env::{Env, FillError};
-use std::io;
 use std::rt::Files;
 
 // Which argument each word is.
@@ -41,7 +40,7 @@ struct Key {
 }
 
 // VERSION is no number, or the one that stands for no stack.
-fn refuse_version(rt: &impl Env, errors: &impl Print) -> io::Result<()> {
+fn refuse_version(rt: &impl Env, errors: &impl Print) {
     messages::refuse(
         rt,
         errors,
@@ -51,47 +50,47 @@ fn refuse_version(rt: &impl Env, errors: &impl Print) -> io::Result<()> {
 }
 
 // VERSION; what is wrong with it is said.
-fn version_asked(rt: &impl Env, errors: &impl Print) -> io::Result<Version> {
+fn version_asked(rt: &impl Env, errors: &impl Print) -> Version {
     let mut text = [0u8; NAME];
     let n = messages::argument_or_none(rt, VERSION, &mut text);
     let asked = version::read(&text[..n]);
     match asked {
         Version::Is(_) => {}
-        Version::No => refuse_version(rt, errors)?,
+        Version::No => refuse_version(rt, errors),
     }
-    Ok(asked)
+    asked
 }
 
 // sealed or unsealed; what is neither is said.
-fn seal_asked(rt: &impl Env, errors: &impl Print) -> io::Result<Seal> {
+fn seal_asked(rt: &impl Env, errors: &impl Print) -> Seal {
     let mut text = [0u8; NAME];
     let n = messages::argument_or_none(rt, SEAL, &mut text);
     if &text[..n] == b"sealed".as_slice() {
-        return Ok(Seal::Sealed);
+        return Seal::Sealed;
     }
     if &text[..n] == b"unsealed".as_slice() {
-        return Ok(Seal::Unsealed);
+        return Seal::Unsealed;
     }
     messages::refuse(
         rt,
         errors,
         "the word after VERSION must be sealed or unsealed",
         SEAL,
-    )?;
-    Ok(Seal::Neither)
+    );
+    Seal::Neither
 }
 
 // KEY, where there is one; what is wrong with it is said.
-fn key_asked(rt: &(impl Env + Files), errors: &impl Print, tagged: bool) -> io::Result<Key> {
+fn key_asked(rt: &(impl Env + Files), errors: &impl Print, tagged: bool) -> Key {
     let mut bytes = [0u8; 64];
     if !tagged {
-        return Ok(Key {
+        return Key {
             bytes,
             failed: false,
-        });
+        };
     }
     let must = "KEY must be a file that can be read";
-    let got = files::read(rt, errors, must, KEY, &mut bytes)?;
+    let got = files::read(rt, errors, must, KEY, &mut bytes);
     let wrong = got.more || got.n != 64;
     if wrong && !got.failed {
         let has = if got.more {
@@ -99,39 +98,39 @@ fn key_asked(rt: &(impl Env + Files), errors: &impl Print, tagged: bool) -> io::
         } else {
             Has::Bytes(got.n)
         };
-        messages::refuse_length(rt, errors, "KEY must have exactly", 64, KEY, has)?;
+        messages::refuse_length(rt, errors, "KEY must have exactly", 64, KEY, has);
     }
-    Ok(Key {
+    Key {
         bytes,
         failed: got.failed || wrong,
-    })
+    }
 }
 
 // How long the image is, in bytes and in sectors.
-fn report_size(out: &impl Print, size: u32) -> io::Result<()> {
+fn report_size(out: &impl Print, size: u32) {
     let sectors = sectors::sectors_for(size, Device::SECTOR_SIZE);
     if sectors == 1 {
-        print!(out; "{size} bytes, 1 sector")
+        let _ = print!(out; "{size} bytes, 1 sector");
     } else {
-        print!(out; "{size} bytes, {sectors} sectors")
+        let _ = print!(out; "{size} bytes, {sectors} sectors");
     }
 }
 
 // The line that says what was made.
-fn report(rt: &(impl Env + Print), h: Header) -> io::Result<()> {
-    messages::print_argument(rt, rt, IMAGE)?;
-    print!(rt; ": ")?;
-    report_size(rt, h.size)?;
+fn report(rt: &(impl Env + Print), h: Header) {
+    messages::print_argument(rt, rt, IMAGE);
+    let _ = print!(rt; ": ");
+    report_size(rt, h.size);
     let version = h.version;
     let sum = h.sum;
-    print!(rt; ", version 0x{version:08x}, sum 0x{sum:08x}")?;
+    let _ = print!(rt; ", version 0x{version:08x}, sum 0x{sum:08x}");
     let sealed = if h.seal == 1 { "sealed" } else { "unsealed" };
     let tagged = if h.tag == 1 { "tagged" } else { "no tag" };
-    print!(rt; ", {sealed}, {tagged}\n")
+    let _ = print!(rt; ", {sealed}, {tagged}\n");
 }
 
 // BODY is longer than the room for it.
-fn refuse_long(rt: &impl Env, errors: &impl Print) -> io::Result<()> {
+fn refuse_long(rt: &impl Env, errors: &impl Print) {
     messages::refuse_length(
         rt,
         errors,
@@ -143,12 +142,7 @@ fn refuse_long(rt: &impl Env, errors: &impl Print) -> io::Result<()> {
 }
 
 // The body can't be an image.
-fn refuse_body(
-    rt: &impl Env,
-    errors: &impl Print,
-    unmade: Unmade,
-    length: usize,
-) -> io::Result<()> {
+fn refuse_body(rt: &impl Env, errors: &impl Print, unmade: Unmade, length: usize) {
     match unmade {
         Unmade::NotWords => messages::refuse_length(
             rt,
@@ -164,21 +158,15 @@ fn refuse_body(
 }
 
 // Makes the image of a body; what can't be one is said.
-fn make(
-    rt: &(impl Env + Files + Print),
-    errors: &impl Print,
-    body: &[u8],
-    wanted: Wanted,
-) -> io::Result<()> {
+fn make(rt: &(impl Env + Files + Print), errors: &impl Print, body: &[u8], wanted: Wanted) {
     let making = maker::make(body, wanted);
     let header = making.header;
     match making.made {
         Made::Image(h) => {
             let must = "IMAGE must be a new file that can be written";
-            if files::write(rt, errors, must, IMAGE, (&header, body))? {
-                report(rt, h)?;
+            if files::write(rt, errors, must, IMAGE, (&header, body)) {
+                report(rt, h);
             }
-            Ok(())
         }
         Made::Not(unmade) => refuse_body(rt, errors, unmade, body.len()),
     }
@@ -196,18 +184,18 @@ fn start(
     version: u32,
     sealed: bool,
     tagged: bool,
-) -> io::Result<()> {
-    let asked = key_asked(rt, errors, tagged)?;
+) {
+    let asked = key_asked(rt, errors, tagged);
     let key = asked.bytes;
     if asked.failed {
-        return Ok(());
+        return;
     }
     let mut body = room();
     let must = "BODY must be a file that can be read";
-    let got = files::read(rt, errors, must, BODY, &mut body)?;
+    let got = files::read(rt, errors, must, BODY, &mut body);
     let n = got.n;
     if got.failed {
-        return Ok(());
+        return;
     }
     if got.more {
         return refuse_long(rt, errors);
@@ -236,19 +224,19 @@ fn word_count(rt: &impl Env) -> usize {
 }
 
 // The words are looked at before any file.
-fn main(rt: HostRuntime) -> io::Result<()> {
+fn main(rt: HostRuntime) {
     let errors = rt.stderr();
     let words = word_count(&rt);
     if words < 5 || 6 < words {
         return messages::usage(&errors);
     }
     let tagged = words == 6;
-    let Version::Is(version) = version_asked(&rt, &errors)? else {
-        return Ok(());
+    let Version::Is(version) = version_asked(&rt, &errors) else {
+        return;
     };
-    match seal_asked(&rt, &errors)? {
+    match seal_asked(&rt, &errors) {
         Seal::Sealed => start(&rt, &errors, version, true, tagged),
         Seal::Unsealed => start(&rt, &errors, version, false, tagged),
-        Seal::Neither => Ok(()),
+        Seal::Neither => {}
     }
 }

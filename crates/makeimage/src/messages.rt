@@ -40,31 +40,30 @@ pub fn argument_or_none(rt: &impl Env, which: usize, room: &mut [u8; NAME]) -> u
 }
 
 // A name as it is given; a control character becomes `?`, so that a line stays one line.
-fn print_plain(to: &impl Print, name: &[u8]) -> io::Result<()> {
+fn print_plain(to: &impl Print, name: &[u8]) {
     for b in name {
         let shown = if *b < 32 || *b == 127 { b'?' } else { *b };
-        to.write_all(&[shown])?;
+        let _ = to.write_all(&[shown]);
     }
-    Ok(())
 }
 
 // An argument of the program.
-pub fn print_argument(rt: &impl Env, to: &impl Print, which: usize) -> io::Result<()> {
+pub fn print_argument(rt: &impl Env, to: &impl Print, which: usize) {
     let mut room = [0u8; NAME];
     let n = argument_or_none(rt, which, &mut room);
     print_plain(to, &room[..n])
 }
 
 // The wrong number of words.
-pub fn usage(errors: &impl Print) -> io::Result<()> {
-    errors.write_all(b"usage: makeimage BODY IMAGE VERSION sealed|unsealed [KEY]\n")
+pub fn usage(errors: &impl Print) {
+    let _ = errors.write_all(b"usage: makeimage BODY IMAGE VERSION sealed|unsealed [KEY]\n");
 }
 
 // A word that is not what it must be.
-pub fn refuse(rt: &impl Env, errors: &impl Print, must: &str, which: usize) -> io::Result<()> {
-    print!(errors; "makeimage: {must}: '")?;
-    print_argument(rt, errors, which)?;
-    errors.write_all(b"' is not\n")
+pub fn refuse(rt: &impl Env, errors: &impl Print, must: &str, which: usize) {
+    let _ = print!(errors; "makeimage: {must}: '");
+    print_argument(rt, errors, which);
+    let _ = errors.write_all(b"' is not\n");
 }
 
 // A file that has not as many bytes as it must.
@@ -75,33 +74,38 @@ pub fn refuse_length(
     many: usize,
     which: usize,
     has: Has,
-) -> io::Result<()> {
-    print!(errors; "makeimage: {must} {many} bytes: '")?;
-    print_argument(rt, errors, which)?;
+) {
+    let _ = print!(errors; "makeimage: {must} {many} bytes: '");
+    print_argument(rt, errors, which);
     match has {
-        Has::Bytes(n) => print!(errors; "' has {n}\n"),
-        Has::More => errors.write_all(b"' has more\n"),
+        Has::Bytes(n) => {
+            let _ = print!(errors; "' has {n}\n");
+        }
+        Has::More => {
+            let _ = errors.write_all(b"' has more\n");
+        }
     }
 }
 
 // The system's own words for an error, without the number that stands behind them.
-fn print_reason(to: &impl Print, error: &io::Error) -> io::Result<()> {
+fn print_reason(to: &impl Print, error: &io::Error) {
     let mut text = Cursor::new([0u8; 256]);
-    write!(text, "{error}")?;
+    let _ = write!(text, "{error}");
     let bytes = text.into_inner();
     for (end, b) in bytes.iter().enumerate() {
         if *b == 0 || bytes[end..].starts_with(b" (os error ") {
-            return to.write_all(&bytes[..end]);
+            let _ = to.write_all(&bytes[..end]);
+            return;
         }
     }
-    to.write_all(&bytes)
+    let _ = to.write_all(&bytes);
 }
 
 // A file that can't be used, in the system's own words.
-pub fn fail(errors: &impl Print, must: &str, name: &[u8], error: &io::Error) -> io::Result<()> {
-    print!(errors; "makeimage: {must}: '")?;
-    print_plain(errors, name)?;
-    errors.write_all(b"': ")?;
-    print_reason(errors, error)?;
-    errors.write_all(b"\n")
+pub fn fail(errors: &impl Print, must: &str, name: &[u8], error: &io::Error) {
+    let _ = print!(errors; "makeimage: {must}: '");
+    print_plain(errors, name);
+    let _ = errors.write_all(b"': ");
+    print_reason(errors, error);
+    let _ = errors.write_all(b"\n");
 }
