@@ -1,5 +1,6 @@
 // The calls by value, each with all the faults that no script of `play` can have, then with one after the other mended, until it is taken. A
-// line has the call and its faults, then the answer, the whole reply buffer and the device after it; where device or flash changed, it says so.
+// line has the call and its faults, then the answer, the whole reply buffer and the device after it; where device or flash changed, it says so. A
+// write that fails is passed over.
 #![tactic(auto)]
 
 use device::{Device, Mode, places};

@@ -1,5 +1,5 @@
 // A file read whole, and a new file written whole or not at all.
-ghost use Rattle.std.specs.Prelude.{◌≡◌, ◌≤◌, IfOk, OnErr, length};
+ghost use Rattle.std.specs.Prelude.{◌≡◌, ◌≤◌, IfOk, length};
 
 use crate::messages;
 use crate::messages::NAME;

@@ -1,4 +1,5 @@
-// One line on standard error for what is wrong: what a word must be, what was given, and what is wrong with it.
+// One line on standard error for what is wrong: what a word must be, what was given, and what is wrong with it. There is nobody left to tell of a
+// write that fails, so it is passed over.
 ghost use Rattle.std.specs.Prelude.{◌≤◌, IfOk, length};
 
 use std::env::{Env, FillError};

@@ -15,7 +15,7 @@ struct Turn {
     more: bool,
 }
 
-// Writes the answer to a line.
+// Writes the answer to a line; a write that fails is passed over.
 fn say(rt: &impl Print, text: &[u8]) {
     let answer = line::answer(text);
     let n = answer.len;
@@ -51,7 +51,7 @@ fn feed(rt: &impl Print, text: &mut [u8], start: usize, chunk: &[u8]) -> usize
     n
 }
 
-// Reads a chunk and answers the lines that end in it.
+// Reads a chunk and answers the lines that end in it. A read that fails is the end of the input.
 fn read_chunk(rt: &impl Print, input: &mut impl Read, text: &mut [u8], n: usize) -> Turn
     requires { n ≤ length text.old }
     ensures { result.kept ≤ length text.new }

@@ -31,7 +31,7 @@ enum Next {
     End,
 }
 
-// The next byte of the input; where the buffer is empty, it is filled first.
+// The next byte of the input; where the buffer is empty, it is filled first. A read that fails is the end.
 fn take(source: &mut impl Read, buffer: &mut [u8], input: Input) -> Next {
     let at = input.at;
     let end = input.end;

@@ -1,4 +1,4 @@
-// What is written to standard output.
+// What is written to standard output. A write that fails is passed over.
 ghost use Rattle.std.specs.Prelude.{◌≤◌, length};
 
 use packet::Refusal;
