@@ -5,12 +5,9 @@ use crate::messages;
 use crate::messages::NAME;
 use std::env::Env;
 use std::fs::{OpenFile, OpenOptions};
-use std::io::{Read, Write};
+use std::io::Write;
 use std::rt::Files;
-use std::{fs, io, str};
-
-// The system's number for a name that is no text.
-const NAME_NO_TEXT: i32 = 84;
+use std::{fs, io};
 
 // What a file was read as: its first n bytes, and whether it has more. Why it can't be read was said.
 #[derive(Clone, Copy)]
@@ -20,40 +17,15 @@ pub struct Got {
     pub failed: bool,
 }
 
-// The path that a name is: text, as the library takes no other.
-fn path(name: &[u8]) -> io::Result<&str> {
-    match str::from_utf8(name) {
-        Ok(path) => Ok(path),
-        Err(_) => Err(io::Error::from_raw_os_error(NAME_NO_TEXT)),
-    }
-}
-
-// Reads on until there is no more room, or no more to read; how many bytes.
-fn fill(file: &mut impl Read, room: &mut [u8]) -> io::Result<usize>
-    ensures { IfOk result (λ n. n ≤ length room.new) }
-{
-    let mut n = 0;
-    for _ in 0..u64::MAX {
-        let got = file.read(&mut room[n..])?;
-        if got == 0 {
-            break;
-        }
-        n += got;
-    }
-    Ok(n)
-}
-
-// Reads a file, as far as there is room; where that is all taken, one read more tells whether the file has more.
+// Reads a file, as far as there is room.
 fn read_file(rt: &impl Files, name: &[u8], room: &mut [u8]) -> io::Result<Got>
     ensures { IfOk result (λ got. got.n ≤ length room.new) }
 {
-    let mut file = fs::open(rt, path(name)?)?;
-    let n = fill(&mut file, room)?;
-    let mut next = [0u8; 1];
-    let more = n == room.len() && 0 < file.read(&mut next)?;
+    let mut file = loading::open(rt, name)?;
+    let loaded = loading::read(&mut file, room)?;
     Ok(Got {
-        n,
-        more,
+        n: loaded.n,
+        more: loaded.more,
         failed: false,
     })
 }
@@ -115,7 +87,7 @@ fn write_parts(
 
 // Makes a file of two parts, or none.
 fn write_file(rt: &impl Files, name: &[u8], first: &[u8], second: &[u8]) -> io::Result<()> {
-    let path = path(name)?;
+    let path = loading::path(name)?;
     let file = OpenOptions::new()
         .write(true)
         .create_new(true)

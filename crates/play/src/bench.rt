@@ -1,12 +1,9 @@
 // What the bench does to the flash by itself: it looks at it, fills it, loads files into it.
-ghost use Rattle.std.specs.Prelude.{◌≤◌, IfOk, length};
-
 use crate::say;
 use device::Device;
 use image::Found;
 use std::io::Read;
 use std::rt::Files;
-use std::{fs, io, str};
 
 // How many bytes the flash has.
 pub const FLASH: usize = Device::SECTOR_COUNT * Device::SECTOR_SIZE;
@@ -107,42 +104,10 @@ fn room() -> [u8; FLASH] {
     [0; FLASH]
 }
 
-// What an open file was read as: its first n bytes, and whether it has more.
-#[derive(Clone, Copy)]
-struct Got {
-    n: usize,
-    more: bool,
-}
-
-// Reads on until there is no more room, or no more to read; how many bytes.
-fn fill_room(file: &mut impl Read, bytes: &mut [u8]) -> io::Result<usize>
-    ensures { IfOk result (λ n. n ≤ length bytes.new) }
-{
-    let mut n = 0;
-    for _ in 0..u64::MAX {
-        let got = file.read(&mut bytes[n..])?;
-        if got == 0 {
-            break;
-        }
-        n += got;
-    }
-    Ok(n)
-}
-
-// Reads a file; where there is no more room, one read more tells whether the file has more.
-fn read_file(file: &mut impl Read, bytes: &mut [u8]) -> io::Result<Got>
-    ensures { IfOk result (λ got. got.n ≤ length bytes.new) }
-{
-    let n = fill_room(file, bytes)?;
-    let mut next = [0u8; 1];
-    let more = n == bytes.len() && 0 < file.read(&mut next)?;
-    Ok(Got { n, more })
-}
-
 // Reads an open file to its end, before a byte of flash is changed.
 fn read(rt: &impl Print, flash: &mut [u8], t: usize, file: &mut impl Read) {
     let mut bytes = room();
-    match read_file(file, &mut bytes) {
+    match loading::read(file, &mut bytes) {
         Ok(got) => {
             if got.more {
                 return say::text(rt, b"bad file: does not fit\n");
@@ -153,17 +118,9 @@ fn read(rt: &impl Print, flash: &mut [u8], t: usize, file: &mut impl Read) {
     }
 }
 
-// Opens the file with this name, which has to be text: the library takes no other.
-fn open<R: Files>(rt: &R, name: &[u8]) -> io::Result<R::File> {
-    match str::from_utf8(name) {
-        Ok(path) => fs::open(rt, path),
-        Err(_) => Err(io::Error::from(io::ErrorKind::InvalidFilename)),
-    }
-}
-
 // Loads the file with this name.
 pub fn load(rt: &(impl Files + Print), flash: &mut [u8], t: usize, name: &[u8]) {
-    match open(rt, name) {
+    match loading::open(rt, name) {
         Ok(mut file) => read(rt, flash, t, &mut file),
         Err(_) => say::text(rt, b"bad file: cannot be opened\n"),
     }
