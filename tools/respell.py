@@ -133,7 +133,9 @@ def main():
         sys.exit("respell: no crates/ here: run it at the top of the repository")
     names = own_names(logic)
     new = new_names(names)
-    others = glob.glob("crates/*/src/**/*.rt", recursive=True) + glob.glob("crates/*/must-fail/*.edit") + glob.glob("docs/*.md") + ["README.md"]
+    # docs/PORT.md tells of the old names
+    pages = [path for path in glob.glob("docs/*.md") if path != "docs/PORT.md"] + ["README.md"]
+    others = glob.glob("crates/*/src/**/*.rt", recursive=True) + glob.glob("crates/*/must-fail/*.edit") + pages
     changed = 0
     for path in logic + sorted(others):
         old = read(path)
