@@ -1,9 +1,9 @@
 #!/usr/bin/env python3
 """No function that makes a store keeps an array above 64 bytes: the source.
 
-    tests/stack/arrays.py [FOLDER]    FOLDER has the crates; it is crates, in the repository's folder, if none is named
+    tests/stack/arrays.py [FOLDER]    FOLDER has the crates, and crates.txt beside it; it is crates, in the repository's folder, if none is named
 
-From grzelotka_work and grzelotka_cut on, every function that is called is looked at, and what it calls in turn: locals, parameters, results and
+From grzelotka_work and grzelotka_cut on, every function that is called is looked at, of the crates that grzelotka stands on, and what it calls in turn: locals, parameters, results and
 temporaries that are arrays, or structs with an array in them that are not lent, may have 64 bytes at most. Arrays of a length that can't be
 read here count as too large. Each is told with its file and function, and the status is 1.
 
@@ -18,7 +18,7 @@ import tempfile
 MOST, UNKNOWN = 64, 10 ** 9
 ROOTS = [('grzelotka', 'lib', 'grzelotka_work'), ('grzelotka', 'lib', 'grzelotka_cut')]
 # what a sector store runs through: where the search does not come to these, it is blind
-KNOWN = [('jobs', 'stores', 'make'), ('jobs', 'stores', 'cut'), ('sectors', 'lib', 'erase'), ('sectors', 'lib', 'copy'), ('sectors', 'lib', 'copy_piece'),
+KNOWN = [('jobs', 'stores', 'make'), ('jobs', 'stores', 'cut'), ('sectors', 'lib', 'erase'), ('sectors', 'lib', 'copy'), ('sectors', 'lib', 'store'),
          ('sectors', 'lib', 'spoil'), ('sectors', 'lib', 'fill'), ('jobs', 'lib', 'advance'), ('jobs', 'lib', 'break_off'), ('plan', 'lib', 'next')]
 SIZES = {'u8': 1, 'i8': 1, 'bool': 1, 'u16': 2, 'i16': 2, 'u32': 4, 'i32': 4, 'u64': 8, 'i64': 8, 'usize': 8, 'isize': 8}
 
@@ -42,6 +42,11 @@ def block_end(text, start):
     return len(text)
 
 
+def by_value(kind, text):
+    """Does a text hold, take or return such a type, not lent, or make one? A word behind two colons is a variant's."""
+    return re.search(rf'((?<!:):|->)\s*{kind}\b(?!::)|(?<!&mut )(?<!&)\b{kind}\s*\{{', text)
+
+
 def imports(text):
     """Each name that `use` brings in, and the path to where it stands; `use a::{b, c::d};` brings in two."""
     for start, words in re.findall(r'^\s*(?:pub )?use ((?:\w+::)*)(\w+|\{[^{}]*\});', text, re.M):
@@ -50,10 +55,21 @@ def imports(text):
             yield path[-1], path[:-1]
 
 
+def stood_on(folder):
+    """grzelotka and the crates that it stands on, by its line of crates.txt."""
+    path = os.path.join(os.path.dirname(os.path.normpath(folder)), 'crates.txt')
+    try:
+        with open(path, encoding='utf-8') as file:
+            line = re.search(r'^grzelotka staticlib: (.*)', file.read(), re.M)
+    except OSError as error:
+        sys.exit(f'arrays.py: {path}: {error.strerror}')
+    return ['grzelotka', *line[1].split()] if line else []
+
+
 class Crates:
     def __init__(self, folder):
         self.functions, self.uses, self.constants, self.structs = {}, {}, {}, {}
-        for crate in sorted(os.listdir(folder)):
+        for crate in stood_on(folder):
             source = os.path.join(folder, crate, 'src')
             for name in sorted(os.listdir(source)) if os.path.isdir(source) else []:
                 with open(os.path.join(source, name), encoding='utf-8') as file:
@@ -67,13 +83,17 @@ class Crates:
             self.constants[name] = max(self.constants.get(name, 0), int(value.replace('_', '')))
         for match in re.finditer(r'\bstruct (\w+)', text):
             self.structs[match[1]] = text[match.start():block_end(text, match.start())] if '{' in text[match.end():] else ''
+        self.structs.update(re.findall(r'\btype (\w+) = (.*);', text))
         for match in re.finditer(r'\bfn (\w+)', text):
             at = crate, module, match[1]  # two of one name are looked at together
             self.functions[at] = self.functions.get(at, '') + text[match.start():block_end(text, match.start())]
 
     def called(self, crate, module, text):
         """The functions that this text of a module calls, as far as they are the crates' own."""
-        for path, name in re.findall(r'((?:\w+::)*)(\w+)\s*\(', text):
+        for dot, path, name in re.findall(r'(\.?)((?:\w+::)*)(\w+)\s*\(', text):
+            if dot:  # a method: its type isn't read here, so each function of that name counts
+                yield from (at for at in self.functions if at[2] == name)
+                continue
             where = path.rstrip(':').split('::') if path else []
             for place in self.places(crate, module, where, name):
                 if (*place, name) in self.functions:
@@ -114,7 +134,7 @@ class Crates:
             yield f'[{element.strip()}; {length.strip()}]', kind * self.number(length)
 
     def large(self):
-        """The structs that have an array above 64 bytes in them, or such a struct."""
+        """The structs that have an array above 64 bytes in them, or such a struct, and the other names of such arrays."""
         found = {name for name, text in self.structs.items() if any(size > MOST for _, size in self.arrays(text))}
         while True:
             more = {name for name, text in self.structs.items() if any(re.search(rf':\s*{other}\b', text) for other in found)} - found
@@ -131,19 +151,19 @@ class Crates:
         for crate, module, name in sorted(reached):
             text, where = self.functions[crate, module, name], f'crates/{crate}/src/{module}.rt: {name}'
             yield from (f'{where}: {what}, {size} bytes' for what, size in self.arrays(text) if size > MOST)
-            yield from (f'{where}: a {kind} by value' for kind in sorted(large) if re.search(rf'(?::|->)\s*{kind}\b(?!::)|\b{kind}\s*\{{', text))
+            yield from (f'{where}: a {kind} by value' for kind in sorted(large) if by_value(kind, text))
 
 
 # file, what stands there, what is planted in its place
 PLANTS = [
-    ('sectors/src/lib.rt', '[0u8; 64]', '[0u8; 65]'),
-    ('sectors/src/lib.rt', '[0u8; 64]', '[0u32; 17]'),
-    ('sectors/src/lib.rt', '[0u8; 64]', '[0u8; PIECE]'),
-    ('sectors/src/lib.rt', 'fill(&mut part[from..], 0xFF);', 'let blank: [u8; 4096] = whole(); fill(&mut part[from..], 0xFF);'),
-    ('plan/src/lib.rt', 'if made == 0 {', 'let spare = [made; 65];\n    if made == 0 {'),
-    ('plan/src/lib.rt', 'fn minus(a: usize, b: usize) -> usize', 'fn minus(a: usize, b: usize, c: [u8; 100]) -> usize'),
+    ('sectors/src/lib.rt', 'front.copy_from_slice(bytes);', 'let piece = [0u8; 65]; front.copy_from_slice(bytes);'),
+    ('sectors/src/lib.rt', 'front.copy_from_slice(bytes);', 'let piece = [0u32; 17]; front.copy_from_slice(bytes);'),
+    ('sectors/src/lib.rt', 'front.copy_from_slice(bytes);', 'let piece = [0u8; PIECE]; front.copy_from_slice(bytes);'),
+    ('sectors/src/lib.rt', 'fill(back, 0xFF);', 'let blank: [u8; 4096] = whole(); fill(back, 0xFF);'),
+    ('plan/src/lib.rt', 'match made {', 'let spare = [made; 65];\n        match made {'),
+    ('plan/src/lib.rt', 'fn blocks(self) -> usize', 'fn blocks(self, c: [u8; 100]) -> usize'),
     ('jobs/src/stores.rt', 'match store {', 'let d: Device = kept();\n    match store {'),
-    ('jobs/src/lib.rt', 'fn finish(rec: &mut [u8], size: usize, top: usize)', 'fn finish(rec: &mut [u8], size: usize, top: usize) -> [u8; 65]'),
+    ('jobs/src/lib.rt', 'fn finish(rec: &mut Record, board: Board)', 'fn finish(rec: &mut Record, board: Board) -> [u8; 65]'),
 ]
 
 
@@ -152,7 +172,8 @@ def self_test(folder):
     for path, old, new in PLANTS:
         with tempfile.TemporaryDirectory() as copy:
             crates = os.path.join(copy, 'crates')
-            shutil.copytree(folder, crates, ignore=shutil.ignore_patterns('proofs', 'specs', 'must-fail'))
+            shutil.copytree(folder, crates, ignore=shutil.ignore_patterns('proofs', 'specs', 'must-fail', 'out'))
+            shutil.copy('crates.txt', copy)
             with open(os.path.join(crates, path), encoding='utf-8') as file:
                 text = file.read()
             if old not in text:

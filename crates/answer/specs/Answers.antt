@@ -1,5 +1,7 @@
 -- Paper 01, "What lawful commands do": what a failure replies, and the error that it makes pending.
-use Rattle.std.specs.Prelude.{ℕ}
+use Rattle.std.specs.Prelude.{ℕ, Option, Some, None}
+use Rattle.answer.specs.declared.Reason.{Reason}
+use Rattle.answer.specs.declared.Reason.TheVariants as Reasons
 use Rattle.answer.specs.declared.Failure.{Failure}
 use Rattle.answer.specs.declared.Failure.TheVariants.{StackRuns, JobUnderWay, NoStack, NoImage, BadHeader, NoRoom, WrongSum, NotSealed, WrongTag, UnderFloor, AuthLocked, NoAuthKey, BadType, BadSize, SecondMaster, StoreFull, NotStored, KeyLocked, NoMaster, NotLoaded}
 use Rattle.answer.specs.declared.Answer.{Answer}
@@ -70,3 +72,18 @@ reason_in (State state error) = 0
 reason_in (Stored index) = 0
 reason_in Accepted = 0
 reason_in (Failed failure) = reason_of failure
+
+-- a reason as its number, and no reason as 0
+abbrev pub number_of : Reason → ℕ
+number_of Reasons.BadType = 1
+number_of Reasons.BadSize = 2
+number_of Reasons.SecondMaster = 3
+number_of Reasons.StoreFull = 4
+number_of Reasons.NotStored = 5
+number_of Reasons.KeyLocked = 6
+number_of Reasons.NoMaster = 7
+number_of Reasons.NotLoaded = 8
+
+abbrev pub told : Option Reason → ℕ
+told None = 0
+told (Some reason) = number_of reason

@@ -2,7 +2,9 @@
 #![tactic(auto)]
 
 ghost use Rattle.std.specs.Prelude.{◌≡◌};
-ghost use Rattle.answer.specs.Answers.{error_of, status_of, payload_of, reason_of, reason_in};
+ghost use Rattle.answer.specs.Answers.{error_of, status_of, payload_of, reason_of, reason_in, number_of, told};
+
+use std::fmt;
 
 // Every way in which a lawful command fails.
 #[derive(Clone, Copy)]
@@ -35,7 +37,20 @@ pub enum Failure {
     NotLoaded,
 }
 
-// What the seven checks find: an image at sector p that is taken, a check that fails, or one that fails and has sector p erased.
+// Why a key was turned down, with its number.
+#[derive(Clone, Copy, PartialEq, Eq)]
+pub enum Reason {
+    BadType = 1,
+    BadSize = 2,
+    SecondMaster = 3,
+    StoreFull = 4,
+    NotStored = 5,
+    KeyLocked = 6,
+    NoMaster = 7,
+    NotLoaded = 8,
+}
+
+// What the seven checks find, one of three things: an image at sector p that is taken, a check that fails, or one that fails and has sector p erased.
 #[derive(Clone, Copy)]
 pub enum Checked {
     Good { p: u32, size: u32, version: u32 },
@@ -55,90 +70,109 @@ pub enum Answer {
     Failed(Failure),
 }
 
-// The error that a failure makes pending; 0 where it makes none.
-pub fn error_of(failure: Failure) -> u8
-    ensures { result ≡ error_of failure }
-{
-    match failure {
-        Failure::StackRuns | Failure::JobUnderWay => 0,
-        Failure::NoStack | Failure::NoImage => 0x01,
-        Failure::BadHeader | Failure::WrongSum => 0x02,
-        Failure::NotSealed | Failure::WrongTag => 0x03,
-        Failure::NoRoom => 0x04,
-        Failure::AuthLocked => 0x0A,
-        Failure::UnderFloor => 0x11,
-        Failure::NoAuthKey
-        | Failure::BadType
-        | Failure::BadSize
-        | Failure::SecondMaster
-        | Failure::StoreFull
-        | Failure::NotStored
-        | Failure::KeyLocked
-        | Failure::NoMaster
-        | Failure::NotLoaded => 0xFF,
+impl From<Reason> for u8 {
+    ghost from_gives = { λ reason n. n ≡ number_of reason };
+
+    fn from(reason: Reason) -> u8 {
+        reason as u8
     }
 }
 
-// The status byte of the response.
-pub fn status_of(answer: Answer) -> u8
-    ensures { result ≡ status_of answer }
-{
-    match answer {
-        Answer::State { state, error: _ } => state,
-        Answer::Stored { index: _ } => 0x00,
-        Answer::Accepted => 0x00,
-        Answer::Failed(_) => 0x01,
+impl fmt::Display for Reason {
+    ghost use Rattle.std.specs.Prelude.{Some};
+    ghost use Rattle.answer.specs.Words.{reason_text};
+
+    ghost output = { λ reason. Some (reason_text reason) };
+
+    fn fmt<W: fmt::Write>(&self, f: &mut fmt::Formatter<W>) -> fmt::Result {
+        f.write_str(match self {
+            Reason::BadType => "bad type",
+            Reason::BadSize => "bad size",
+            Reason::SecondMaster => "second master",
+            Reason::StoreFull => "store full",
+            Reason::NotStored => "not stored",
+            Reason::KeyLocked => "locked",
+            Reason::NoMaster => "no master",
+            Reason::NotLoaded => "not loaded",
+        })
     }
 }
 
-// Its payload byte, for the commands that have one.
-pub fn payload_of(answer: Answer) -> u8
-    ensures { result ≡ payload_of answer }
-{
-    match answer {
-        Answer::State { state: _, error } => error,
-        Answer::Stored { index } => index,
-        Answer::Accepted => 0x00,
-        Answer::Failed(_) => 0xFF,
+impl Failure {
+    // The error that it makes pending; 0 where it makes none.
+    // Kept: 0 and no Option: its one caller stores it as the record's byte, where 0 is none, and would take an Option apart there again.
+    pub fn error(self) -> u8
+        ensures { result ≡ error_of self }
+    {
+        match self {
+            Failure::StackRuns | Failure::JobUnderWay => 0,
+            Failure::NoStack | Failure::NoImage => 0x01,
+            Failure::BadHeader | Failure::WrongSum => 0x02,
+            Failure::NotSealed | Failure::WrongTag => 0x03,
+            Failure::NoRoom => 0x04,
+            Failure::AuthLocked => 0x0A,
+            Failure::UnderFloor => 0x11,
+            Failure::NoAuthKey
+            | Failure::BadType
+            | Failure::BadSize
+            | Failure::SecondMaster
+            | Failure::StoreFull
+            | Failure::NotStored
+            | Failure::KeyLocked
+            | Failure::NoMaster
+            | Failure::NotLoaded => 0xFF,
+        }
+    }
+
+    // Why a key was turned down, where one was.
+    pub fn reason(self) -> Option<Reason>
+        ensures { told result ≡ reason_of self }
+    {
+        match self {
+            Failure::BadType => Some(Reason::BadType),
+            Failure::BadSize => Some(Reason::BadSize),
+            Failure::SecondMaster => Some(Reason::SecondMaster),
+            Failure::StoreFull => Some(Reason::StoreFull),
+            Failure::NotStored => Some(Reason::NotStored),
+            Failure::KeyLocked => Some(Reason::KeyLocked),
+            Failure::NoMaster => Some(Reason::NoMaster),
+            Failure::NotLoaded => Some(Reason::NotLoaded),
+            _ => None,
+        }
     }
 }
 
-// Why a key was turned down, as a number; 0 for a failure that has no reason.
-fn reason_of(failure: Failure) -> u8
-    ensures { result ≡ reason_of failure }
-{
-    match failure {
-        Failure::BadType => 1,
-        Failure::BadSize => 2,
-        Failure::SecondMaster => 3,
-        Failure::StoreFull => 4,
-        Failure::NotStored => 5,
-        Failure::KeyLocked => 6,
-        Failure::NoMaster => 7,
-        Failure::NotLoaded => 8,
-        Failure::StackRuns
-        | Failure::JobUnderWay
-        | Failure::NoStack
-        | Failure::NoImage
-        | Failure::BadHeader
-        | Failure::NoRoom
-        | Failure::WrongSum
-        | Failure::NotSealed
-        | Failure::WrongTag
-        | Failure::UnderFloor
-        | Failure::AuthLocked
-        | Failure::NoAuthKey => 0,
+impl Answer {
+    // The status byte of the response.
+    pub fn status(self) -> u8
+        ensures { result ≡ status_of self }
+    {
+        match self {
+            Answer::State { state, error: _ } => state,
+            Answer::Stored { index: _ } | Answer::Accepted => 0x00,
+            Answer::Failed(_) => 0x01,
+        }
     }
-}
 
-// The reason beside an answer: 0 for none.
-pub fn reason_in(answer: Answer) -> u8
-    ensures { result ≡ reason_in answer }
-{
-    match answer {
-        Answer::State { state: _, error: _ } => 0,
-        Answer::Stored { index: _ } => 0,
-        Answer::Accepted => 0,
-        Answer::Failed(failure) => reason_of(failure),
+    // Its payload byte, for the commands that have one.
+    pub fn payload(self) -> u8
+        ensures { result ≡ payload_of self }
+    {
+        match self {
+            Answer::State { state: _, error } => error,
+            Answer::Stored { index } => index,
+            Answer::Accepted => 0x00,
+            Answer::Failed(_) => 0xFF,
+        }
+    }
+
+    // The reason beside it.
+    pub fn reason(self) -> Option<Reason>
+        ensures { told result ≡ reason_in self }
+    {
+        match self {
+            Answer::Failed(failure) => failure.reason(),
+            _ => None,
+        }
     }
 }

@@ -8,7 +8,7 @@ ghost use Rattle.basics.specs.Words.{byte_at, joined, word_at};
 pub fn word(a: u8, b: u8, c: u8, d: u8) -> u32
     ensures { result ≡ joined a b c d }
 {
-    (a as u32) + 256 * (b as u32) + 65536 * (c as u32) + 16777216 * (d as u32)
+    u32::from_le_bytes([a, b, c, d])
 }
 
 // The word that starts at `at`.
@@ -23,5 +23,5 @@ pub fn word_at(part: &[u8], at: usize) -> u32
 pub fn byte_at(s: &[u8], at: usize) -> u8
     ensures { result ≡ byte_at s.now at }
 {
-    if at < s.len() { s[at] } else { 0 }
+    s.get(at).copied().unwrap_or(0)
 }

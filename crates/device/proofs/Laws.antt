@@ -14,6 +14,7 @@ use Rattle.device.specs.Steps.{step}
 use Rattle.device.specs.Whole.{with_head, with_locks, carried}
 use Rattle.device.specs.Layout.{encode, decode}
 use Rattle.device.specs.Done.{done, stepped, Steps}
+use Rattle.device.proofs.Records.{locks_length}
 
 -- A STEP
 module _ (l r : List ℕ) (h : Head) (a : Answer) where
@@ -78,4 +79,13 @@ pub ruleset steps = (
   lt-leb,
   eq-eqb,
   ne_eqb,
+)
+
+-- for the check of a function whose contract is a step
+pub ruleset on_record = (
+  kept,
+  dropped,
+  locked,
+  finish,
+  locks_length,
 )

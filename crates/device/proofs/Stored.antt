@@ -4,25 +4,19 @@ use mathlib.Core.Path.{◌≡◌, refl, sym, ap, ◌∙◌}
 use mathlib.Core.Bool.{Bool, true, false}
 use mathlib.Core.List.{List, ◌++◌}
 use native.Mathlib.Omega.{arith}
-use borrow.Author.Tests.{le-leb, lt-leb, eqb-true, eqb-false}
-use lib.Dec.{leb, eqb}
-use lib.ListN.{length, take, take-append-drop}
+use lib.Dec.{eqb}
+use lib.ListN.{length, take, drop, take-append-drop}
 use lib.Seq.{take_at, drop_at, take-append-le, take-take, length-take-le}
 use Rattle.basics.specs.Choice.{pick}
-use Rattle.basics.specs.Words.{byte_at, word_at, word_bytes, put_at, zeros}
-use Rattle.basics.proofs.Words.{length_zeros}
+use Rattle.basics.specs.Words.{byte_at, word_at, put_at, zeros}
 use Rattle.device.specs.declared.Mode.{Mode}
 use Rattle.device.specs.declared.Mode.TheVariants.{Stack, Idle, Upgrade, Delete}
 use Rattle.device.specs.Types.{Device, Effect, Keep, Drop, Lock, Put, Auth}
-use Rattle.device.specs.Modes.{stack_runs, is_idle, has_job, with_recorded}
-use Rattle.device.specs.Heads.{with_mode}
-use Rattle.device.specs.Whole.{with_head, with_locks, fits, apply}
+use Rattle.device.specs.Modes.{stack_runs}
+use Rattle.device.specs.Whole.{with_locks, fits, apply}
 use Rattle.device.specs.Layout.{mode_at, image_at, size_at, image_version_at, recorded_at, locks_at, key_at, kinds_at, tag_of, head_bytes, mode_of, mode_in, head_in, encode, decode, applied}
 use Rattle.device.specs.Fields.{Held}
 use Rattle.device.proofs.Records.{head_length, put_applied}
-
-never : false ≡ true → ⊥
-never e = let z : ◌≡◌ {A = ℕ} 0 1 = cc in omega arith
 
 -- THE ARRAYS
 module _ (l : List ℕ) (h : Held l) where
@@ -53,11 +47,11 @@ module _ (l : List ℕ) (h : Held l) where
   effect_in x key f = same_head (applied x key l) (kept_front x key) ∙ put_applied x key (head_in l) l h.size f
 
 -- the locks dropped, of any device with as many as there are keys
-pub drop_in : (d : Device) → length d.locks ≡ 101 → put_at (encode d) locks_at (zeros 101) ≡ encode (with_locks (zeros 101) d)
+pub drop_in : (d : Device) (l z : List ℕ) → length d.locks ≡ 101 → l ≡ encode d → z ≡ zeros 101 → take locks_at l ++ (z ++ drop 101 (drop locks_at l)) ≡ encode (with_locks (zeros 101) d)
 unfolding encode
-drop_in d k =
+drop_in d l z k e f =
     let rest : List ℕ = d.key ++ (d.kinds ++ (d.sizes ++ d.bytes)) in
-    rw (take_at (head_bytes d.head) (d.locks ++ rest) locks_at (head_length d.head), drop_at (head_bytes d.head) (d.locks ++ rest) locks_at (head_length d.head), length_zeros 101, drop_at d.locks rest 101 k)
+    rw (e, f, take_at (head_bytes d.head) (d.locks ++ rest) locks_at (head_length d.head), drop_at (head_bytes d.head) (d.locks ++ rest) locks_at (head_length d.head), drop_at d.locks rest 101 k)
 
 -- THE MODE by its byte
 module _ (tag p size version recorded : ℕ) where
@@ -71,30 +65,6 @@ module _ (tag p size version recorded : ℕ) where
       go false false true = refl
       go false false false = refl
 
-  pub idle_by : eqb tag 1 ≡ is_idle (mode_of tag p size version recorded)
-  unfolding pick
-  idle_by = go (eqb tag 0) (eqb tag 1) (eqb tag 2) refl refl
-    where
-      go : (a b c : Bool) → eqb tag 0 ≡ a → eqb tag 1 ≡ b → b ≡ is_idle (pick a Stack (pick b Idle (pick c (Upgrade p size version recorded) (Delete recorded))))
-      go true true c e f = let z : ⊥ = omega (arith, eqb-true tag 0 e, eqb-true tag 1 f) in absurd z
-      go true false c e f = refl
-      go false true c e f = refl
-      go false false true e f = refl
-      go false false false e f = refl
-
-  pub has_job_by : leb 2 tag ≡ has_job (mode_of tag p size version recorded)
-  unfolding pick
-  has_job_by = go (eqb tag 0) (eqb tag 1) (eqb tag 2) refl refl
-    where
-      from_two : eqb tag 0 ≡ false → eqb tag 1 ≡ false → 2 ≤ tag
-      from_two e f = let x : tag ≡ 0 → ⊥ = eqb-false tag 0 e in let y : tag ≡ 1 → ⊥ = eqb-false tag 1 f in omega arith
-
-      go : (a b c : Bool) → eqb tag 0 ≡ a → eqb tag 1 ≡ b → leb 2 tag ≡ has_job (pick a Stack (pick b Idle (pick c (Upgrade p size version recorded) (Delete recorded))))
-      go true b c e f = let z : tag ≡ 0 = eqb-true tag 0 e in lt-leb 2 tag (omega arith)
-      go false true c e f = let z : tag ≡ 1 = eqb-true tag 1 f in lt-leb 2 tag (omega arith)
-      go false false true e f = le-leb 2 tag (from_two e f)
-      go false false false e f = le-leb 2 tag (from_two e f)
-
 runs_tag : (m : Mode) → eqb (tag_of m) 0 ≡ stack_runs m
 runs_tag Stack = refl
 runs_tag Idle = refl
@@ -107,15 +77,3 @@ unfolding encode head_bytes
 runs_of d l e =
     let t : byte_at l mode_at ≡ tag_of d.head.mode = rw e in
     sym (runs_by (byte_at l mode_at) (word_at l image_at) (word_at l size_at) (word_at l image_version_at) (word_at l recorded_at)) ∙ (rw t (runs_tag d.head.mode))
-
-module _ (d : Device) where
-  -- the sectors recorded, put in their place
-  pub put_recorded_in : (k : ℕ) → has_job d.head.mode ≡ true → put_at (encode d) 34 (word_bytes k) ≡ encode (with_head (with_mode (with_recorded k d.head.mode) d.head) d)
-  unfolding encode head_bytes
-  put_recorded_in k j = go d.head.mode refl
-    where
-      go : (m : Mode) → d.head.mode ≡ m → put_at (encode d) 34 (word_bytes k) ≡ encode (with_head (with_mode (with_recorded k d.head.mode) d.head) d)
-      go Stack e = let z : false ≡ true = rw e at j in absurd (never z)
-      go Idle e = let z : false ≡ true = rw e at j in absurd (never z)
-      go (Upgrade p size version recorded) e = rw e
-      go (Delete recorded) e = rw e

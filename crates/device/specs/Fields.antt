@@ -1,6 +1,5 @@
 -- What a store to a field of a record's bytes does to the device that they are.
-use Rattle.std.specs.Prelude.{ℕ, ◌≡◌, List, ◌++◌, length}
-use Rattle.basics.specs.Words.{word_bytes}
+use Rattle.std.specs.Prelude.{ℕ, ◌≡◌, List, length}
 use Rattle.device.specs.declared.Head.{Head}
 use Rattle.device.specs.Types.{Look, Device}
 use Rattle.device.specs.Whole.{look, with_head, lost}
@@ -22,11 +21,3 @@ Becomes l r f = (d : Device) → l ≡ encode d → r ≡ encode (with_head (f d
 -- bytes of a device become those of the device that lost what is lost
 abbrev pub Loses : List ℕ → List ℕ → Type 0
 Loses l r = (d : Device) → length d.locks ≡ 101 → l ≡ encode d → r ≡ encode (lost d)
-
--- the words of a stack
-abbrev pub stack_bytes : ℕ → ℕ → ℕ → List ℕ
-stack_bytes version sectors boundary = word_bytes version ++ (word_bytes sectors ++ word_bytes boundary)
-
--- the words of a mode's job
-abbrev pub job_bytes : ℕ → ℕ → ℕ → ℕ → List ℕ
-job_bytes p size version recorded = word_bytes p ++ (word_bytes size ++ (word_bytes version ++ word_bytes recorded))

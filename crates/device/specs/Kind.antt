@@ -1,6 +1,8 @@
 -- Paper 01, "The device that is played": its numbers, and a fresh device.
 use Rattle.std.specs.Prelude.{ℕ, ◌*◌, false}
+use lib.Dec.{lit≤}
 use Rattle.basics.specs.Words.{zeros}
+use Rattle.device.specs.declared.Board.{Board}
 use Rattle.device.specs.declared.Head.{Head}
 use Rattle.device.specs.Types.{Device}
 use Rattle.device.specs.declared.Mode.TheVariants.{Idle}
@@ -14,6 +16,11 @@ sector_count = 244
 
 abbrev pub fus_sector : ℕ
 fus_sector = 244
+
+-- the numbers of the first kind of device
+abbrev pub first : Board
+first =
+    record { size = sector_size; count = sector_count; top = fus_sector; header = lit≤ tt; small = lit≤ tt; below = lit≤ tt; few = lit≤ tt }
 
 -- the lent flash: 999,424 bytes
 abbrev pub flash_length : ℕ

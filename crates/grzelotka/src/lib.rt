@@ -1,27 +1,36 @@
 // The calls as the C test host has them (include/grzelotka.h): each is the record's call with its answer as a number.
+// Kept: numbers for answers, refusals and reasons, and what else is told by `&mut`: C has no Result and no Option.
 #![tactic(auto)]
 
-ghost use Rattle.std.specs.Prelude.{◌≡◌, not, eqb, length};
+ghost use Rattle.std.specs.Prelude.{◌≡◌, Err, not, eqb, length};
 ghost use Rattle.packet.specs.Packets.{read_of};
+ghost use Rattle.answer.specs.Answers.{told};
 ghost use Rattle.reply.specs.Message.{next_message};
-ghost use Rattle.services.specs.Calls.{first};
+ghost use Rattle.services.specs.Calls.{first, verdict_of};
 ghost use Rattle.device.specs.Layout.{record_length};
 ghost use Rattle.services.specs.InPlace.{fresh_in_place, handled_in_place, restarted_in_place, worked_in_place, cut_in_place};
 ghost use Rattle.serial.specs.InPlace.{reader_length, fresh_in_place as serialFresh, stepped_in_place};
 ghost use Rattle.grzelotka.specs.Numbers.{number_for, read_number, read_opcode, read_length, heard_number};
 
-use packet::Reading;
-use serial::Heard;
-use services::Verdict;
+use answer::Reason;
+use packet::Refusal;
+use serial::{Sent, Unheard};
 
 // 0 for a call that is taken, else the refusal's number.
-fn number_for(verdict: Verdict) -> u8
-    ensures { result ≡ number_for verdict }
+fn number_for<T: Copy>(outcome: Result<T, Refusal>) -> u8
+    ensures { result ≡ number_for (verdict_of outcome) }
 {
-    match verdict {
-        Verdict::Taken => 0,
-        Verdict::Refused(refusal) => packet::number(refusal),
+    match outcome {
+        Ok(_) => 0,
+        Err(refusal) => u8::from(refusal),
     }
+}
+
+// Why a key was turned down, as a number: 0 for no reason.
+fn reason_number(reason: Option<Reason>) -> u8
+    ensures { result ≡ told reason }
+{
+    reason.map_or(0, u8::from)
 }
 
 #[unsafe(no_mangle)]
@@ -46,17 +55,16 @@ pub extern "C" fn grzelotka_read(packet: &[u8], opcode: &mut u16, payload: &mut 
     ensures opcode_after { opcode.new ≡ read_opcode (read_of packet.now) }
     ensures payload_after { payload.new ≡ read_length (read_of packet.now) }
 {
-    let reading = packet::read(packet);
-    match reading {
-        Reading::Lawful { command, length } => {
-            *opcode = packet::opcode_of(command);
-            *payload = length;
+    match packet::read(packet) {
+        Ok(request) => {
+            *opcode = u16::from(request.command);
+            *payload = request.length;
             0
         }
-        Reading::Refused(refusal) => {
+        Err(refusal) => {
             *opcode = 0;
             *payload = 0;
-            packet::number(refusal)
+            u8::from(refusal)
         }
     }
 }
@@ -73,9 +81,7 @@ pub extern "C" fn grzelotka_handle(
     ensures flash_after { flash.new ≡ (handled_in_place first rec.old flash.old packet.now reply.old).flash }
     ensures reply_after { reply.new ≡ (handled_in_place first rec.old flash.old packet.now reply.old).reply }
 {
-    let told = services::handle(rec, flash, packet, reply);
-    let verdict = told.verdict;
-    number_for(verdict)
+    number_for(services::handle(rec, flash, packet, reply))
 }
 
 // The same, and beside the reply why a key was turned down: 0 for no reason.
@@ -93,10 +99,9 @@ pub extern "C" fn grzelotka_handle_why(
     ensures reply_after { reply.new ≡ (handled_in_place first rec.old flash.old packet.now reply.old).reply }
     ensures reason_after { reason.new ≡ (handled_in_place first rec.old flash.old packet.now reply.old).reason }
 {
-    let told = services::handle(rec, flash, packet, reply);
-    *reason = told.reason;
-    let verdict = told.verdict;
-    number_for(verdict)
+    let outcome = services::handle(rec, flash, packet, reply);
+    *reason = reason_number(outcome.unwrap_or(None));
+    number_for(outcome)
 }
 
 #[unsafe(no_mangle)]
@@ -115,7 +120,9 @@ pub extern "C" fn grzelotka_work(rec: &mut [u8], flash: &mut [u8], left: &mut u3
     ensures flash_after { flash.new ≡ (worked_in_place first rec.old flash.old).flash }
     ensures left_after { left.new ≡ (worked_in_place first rec.old flash.old).left }
 {
-    number_for(services::work(rec, flash, left))
+    let outcome = services::work(rec, flash);
+    *left = outcome.unwrap_or(0);
+    number_for(outcome)
 }
 
 // Any nonzero `through` lets a record store go through.
@@ -140,18 +147,16 @@ pub extern "C" fn grzelotka_cut(
 pub extern "C" fn grzelotka_next_message<'a>(event: &'a [u8], response: &'a [u8]) -> usize
     ensures { result ≡ length (next_message event.now response.now) }
 {
-    let part = reply::next_message(event, response);
-    part.len()
+    reply::next_message(event, response).len()
 }
 
-// The line's answers as numbers.
-fn heard_number(heard: Heard) -> u8
-    ensures { result ≡ heard_number heard }
+// Why the line takes no byte: 3 as every short buffer, 19 for bytes that are no reader's.
+fn unheard_number(unheard: Unheard) -> u8
+    ensures { result ≡ heard_number (Err unheard) }
 {
-    match heard {
-        Heard::Taken => 0,
-        Heard::OutShort => 3,
-        Heard::NoReader => 19,
+    match unheard {
+        Unheard::OutShort => 3,
+        Unheard::NoReader => 19,
     }
 }
 
@@ -167,7 +172,7 @@ pub extern "C" fn grzelotka_serial_fresh(reader: &mut [u8]) -> u8
     ensures value { result ≡ heard_number (serialFresh reader.old).answer }
     ensures reader_after { reader.new ≡ (serialFresh reader.old).reader }
 {
-    heard_number(serial::fresh(reader))
+    serial::fresh(reader).map_or_else(unheard_number, |()| 0)
 }
 
 #[unsafe(no_mangle)]
@@ -188,5 +193,16 @@ pub extern "C" fn grzelotka_serial(
     ensures sent_after { sent.new ≡ (stepped_in_place first rec.old flash.old reader.old byte out.old).sent }
     ensures reason_after { reason.new ≡ (stepped_in_place first rec.old flash.old reader.old byte out.old).reason }
 {
-    heard_number(serial::byte(rec, flash, reader, byte, out, sent, reason))
+    match serial::byte(rec, flash, reader, byte, out) {
+        Ok(Sent { count, reason: why }) => {
+            *sent = count;
+            *reason = reason_number(why);
+            0
+        }
+        Err(unheard) => {
+            *sent = 0;
+            *reason = 0;
+            unheard_number(unheard)
+        }
+    }
 }

@@ -3,8 +3,7 @@ use Rattle.std.proofs.Common.{◌≡◌, ℕ, ◌+◌, ◌*◌, ◌<◌, ◌≤�
 use Rattle.basics.specs.Choice.{pick}
 use Rattle.answer.specs.declared.Checked.{Checked}
 use Rattle.answer.specs.declared.Checked.TheVariants.{Good, Fails, Erases}
-use Rattle.image.specs.declared.Found.{Found}
-use Rattle.image.specs.declared.Found.TheVariants.{At, Nowhere}
+use Rattle.std.specs.Prelude.{Option, Some, None}
 use Rattle.image.specs.declared.Header.{Header}
 use Rattle.image.specs.declared.Terms.{Terms}
 use Rattle.image.specs.Images.{find, header_of, header_lawful, size_lawful, version_lawful, room_for, body_sum, tag_key_is, decided, judged, after_find, checked_of, Erasable}
@@ -36,10 +35,10 @@ module _ (S : ℕ) (terms : Terms) where
       (λ full. tt))
       (λ bad. low)
 
-  told_of : (key F : List ℕ) (f : Found) → ((p : ℕ) → f ≡ At p → p < terms.boundary) → T (after_find S terms key F f)
+  told_of : (key F : List ℕ) (f : Option ℕ) → ((p : ℕ) → f ≡ Some p → p < terms.boundary) → T (after_find S terms key F f)
   unfolding judged
-  told_of key F Nowhere low = tt
-  told_of key F (At p) low =
+  told_of key F None low = tt
+  told_of key F (Some p) low =
       let s = drop (p * S) F in
       decided_told p (header_of s) (body_sum s (header_of s).size) (tag_key_is s key) (low p refl)
 

@@ -1,10 +1,14 @@
 -- Laws of `begins`, `find` and `total`, as the loops go.
-use Rattle.std.proofs.Common.{◌≡◌, ℕ, zero, suc, ◌+◌, ◌-◌, ◌*◌, ◌<◌, ◌≤◌, Bool, true, false, eqb, List, [], ◌∷◌, ◌++◌, length, get_or, take, drop, sym, refl, ap, ◌∙◌, ⊎_elim, le_of_suc-le-suc, not-suc-le-zero, mod-lt, add-mul, eq-or-lt_of_le, one-mul, add-one, arith, length-drop, take_all, drop-cons, eq-eqb, ne_eqb}
-use lib.Seq.{take-nil, drop-length}
+use Rattle.std.proofs.Common.{◌≡◌, ℕ, zero, suc, ◌+◌, ◌-◌, ◌*◌, ◌/◌, ◌<◌, ◌≤◌, Bool, true, false, ◌&&◌, eqb, List, [], ◌∷◌, ◌++◌, length, get_or, take, drop, sym, refl, ap, ◌∙◌, ⊎_elim, le_of_suc-le-suc, not-suc-le-zero, mod-lt, add-mul, eq-or-lt_of_le, one-mul, add-one, arith, length-drop, take_all, drop-cons, eq-eqb, ne_eqb}
+use lib.ListN.{drop_of_length-le}
+use lib.Seq.{take-nil}
+use lib.Pointwise.{pointwise}
 use Rattle.basics.specs.Choice.{pick}
-use Rattle.basics.specs.Words.{joined}
-use Rattle.image.specs.declared.Found.{Found}
-use Rattle.image.specs.declared.Found.TheVariants.{At, Nowhere}
+use Rattle.std.specs.Int.{from_le_bytes}
+use native.Mathlib.Decide.{dec_lt}
+use mir.Syntax.{w32}
+use Rattle.std.specs.Simd.{first_chunks}
+use Rattle.std.specs.Prelude.{Option, Some, None}
 use Rattle.image.specs.Sums.{total, sum_of, begins}
 use Rattle.image.specs.Images.{mark, find}
 
@@ -19,23 +23,23 @@ begins_short s [] h = absurd (not-suc-le-zero h)
 begins_short [] (m ∷ ms) h = refl
 begins_short (x ∷ s) (m ∷ ms) h = ap (λ r. pick (eqb x m) r false) (begins_short s ms (le_of_suc-le-suc h)) ∙ pick_false (eqb x m)
 
--- the bytes at i
-module _ (s m : List ℕ) (i : ℕ) (ls : i < length s) (lm : i < length m) where
-  step : begins (drop i s) (drop i m) ≡ pick (eqb (get_or s i 0) (get_or m i 0)) (begins (drop (suc i) s) (drop (suc i) m)) false
-  unfolding begins
-  step = rw (drop-cons s i 0, drop-cons m i 0)
+turned : (x m : ℕ) → eqb x m ≡ eqb m x
+turned x m = elim (dec_lt x m) [
+  | yes h ↦ ne_eqb x m (omega arith) ∙ sym (ne_eqb m x (omega arith))
+  | no h ↦ elim (dec_lt m x) [ yes l ↦ ne_eqb x m (omega arith) ∙ sym (ne_eqb m x (omega arith)) | no l ↦ eq-eqb x m (omega arith) ∙ sym (eq-eqb m x (omega arith)) ]
+]
 
-  pub begins_no : (get_or s i 0 ≡ get_or m i 0 → ⊥) → begins (drop i s) (drop i m) ≡ false
-  unfolding pick
-  begins_no ne = step ∙ rw (ne_eqb (get_or s i 0) (get_or m i 0) ne)
+as_and : (a b : Bool) → pick a b false ≡ a && b
+unfolding pick
+as_and true b = refl
+as_and false b = refl
 
-  pub begins_on : get_or s i 0 ≡ get_or m i 0 → begins (drop i s) (drop i m) ≡ begins (drop (i + 1) s) (drop (i + 1) m)
-  unfolding pick
-  begins_on e = step ∙ rw (eq-eqb (get_or s i 0) (get_or m i 0) e, add-one)
-
-pub begins_all : (s m : List ℕ) (i : ℕ) → i ≡ length m → begins (drop i s) (drop i m) ≡ true
-unfolding begins
-begins_all s m i e = rw (e, drop-length)
+-- the same as the library says it
+pub begins_is : (s m : List ℕ) → begins s m ≡ pointwise eqb m (take (length m) s)
+unfolding begins pick
+begins_is s [] = refl
+begins_is [] (m ∷ ms) = refl
+begins_is (x ∷ s) (m ∷ ms) = rw (begins_is s ms, turned x m) (as_and (eqb m x) (pointwise eqb ms (take (length ms) s)))
 
 -- what stands in front of a list is what it begins with
 pub begins_front : (m rest : List ℕ) → begins (m ++ rest) m ≡ true
@@ -64,11 +68,11 @@ pub last : (t S : ℕ) → 0 < t → (t - 1) * S + S ≡ t * S
 last t S h = let e : t - 1 + 1 ≡ t = omega arith in rw (add-mul, one-mul) at (ap (λ k. k * S) e)
 
 module _ (S : ℕ) (F : List ℕ) where
-  below : (t : ℕ) → 0 < t → find S F t ≡ pick (begins (drop ((t - 1) * S) F) mark) (At (t - 1)) (find S F (t - 1))
+  below : (t : ℕ) → 0 < t → find S F t ≡ pick (begins (drop ((t - 1) * S) F) mark) (Some (t - 1)) (find S F (t - 1))
   unfolding find
   below t h = let e : t ≡ suc (t - 1) = omega arith in ap (find S F) e
 
-  pub find_hit : (t : ℕ) → 0 < t → begins (drop ((t - 1) * S) F) mark ≡ true → At (t - 1) ≡ find S F t
+  pub find_hit : (t : ℕ) → 0 < t → begins (drop ((t - 1) * S) F) mark ≡ true → Some (t - 1) ≡ find S F t
   unfolding pick
   find_hit t h e = sym (below t h ∙ rw e)
 
@@ -76,24 +80,24 @@ module _ (S : ℕ) (F : List ℕ) where
   unfolding pick
   find_miss t h e = below t h ∙ rw e
 
-  pub find_none : (t : ℕ) → t ≤ 0 → find S F t ≡ Nowhere
+  pub find_none : (t : ℕ) → t ≤ 0 → find S F t ≡ None
   unfolding find
   find_none t h = let e : t ≡ 0 = omega arith in ap (find S F) e
 
 -- what is found lies below
-pick_below : (t p : ℕ) (f : Found) (r : Bool) → (f ≡ At p → p < t) → pick r (At t) f ≡ At p → p < suc t
+pick_below : (t p : ℕ) (f : Option ℕ) (r : Bool) → (f ≡ Some p → p < t) → pick r (Some t) f ≡ Some p → p < suc t
 unfolding pick
 pick_below t p f true low e = let q : t ≡ p = cc in omega arith
 pick_below t p f false low e = let q : p < t = low e in omega arith
 
-pub find_below : (S : ℕ) (F : List ℕ) (b p : ℕ) → find S F b ≡ At p → p < b
+pub find_below : (S : ℕ) (F : List ℕ) (b p : ℕ) → find S F b ≡ Some p → p < b
 unfolding find
 find_below S F zero p e = let z : ◌≡◌ {A = ℕ} 0 1 = cc in absurd (omega arith)
 find_below S F (suc t) p e = pick_below t p (find S F t) (begins (drop (t * S) F) mark) (find_below S F t p) e
 
 -- the highest sector below b with the mark is what is found
 pub find_highest : (S : ℕ) (F : List ℕ) (p b : ℕ) → p < b → begins (drop (p * S) F) mark ≡ true
-    → ((t : ℕ) → p < t → t < b → begins (drop (t * S) F) mark ≡ false) → find S F b ≡ At p
+    → ((t : ℕ) → p < t → t < b → begins (drop (t * S) F) mark ≡ false) → find S F b ≡ Some p
 unfolding find pick
 find_highest S F p zero low hit above = absurd (not-suc-le-zero low)
 find_highest S F p (suc t) low hit above =
@@ -114,20 +118,28 @@ total_short (a ∷ b ∷ []) h = refl
 total_short (a ∷ b ∷ c ∷ []) h = refl
 total_short (a ∷ b ∷ c ∷ d ∷ r) h = absurd (not-suc-le-zero (le_of_suc-le-suc (le_of_suc-le-suc (le_of_suc-le-suc (le_of_suc-le-suc h)))))
 
-module _ (s : List ℕ) (i : ℕ) where
-  pub total_word : i + 4 ≤ length s
-      → total (drop i s) ≡ joined (get_or s i 0) (get_or s (i + 1) 0) (get_or s (i + 2) 0) (get_or s (i + 3) 0) + total (drop (i + 4) s)
-  unfolding total
-  total_word h =
-      rw (
-        next_byte s i (i + 1) refl (omega arith),
-        next_byte s (i + 1) (i + 2) (omega arith) (omega arith),
-        next_byte s (i + 2) (i + 3) (omega arith) (omega arith),
-        next_byte s (i + 3) (i + 4) (omega arith) (omega arith),
-      )
+-- the words of a body, as the library cuts them and reads them
+unfoldable pub values : List (List ℕ) → ℕ
+values [] = 0
+values (w ∷ ws) = from_le_bytes w32 w + values ws
 
-  pub total_rest : length s < i + 4 → total (drop i s) ≡ 0
-  total_rest h = total_short (drop i s) (simp length-drop (omega arith))
+pub total_is : (n : ℕ) (s : List ℕ) → n ≡ length s / 4 → total s ≡ values (first_chunks 4 n s)
+unfolding total values
+total_is zero s e = total_short s (omega arith)
+total_is (suc n) [] e = absurd (omega arith)
+total_is (suc n) (a ∷ []) e = absurd (omega arith)
+total_is (suc n) (a ∷ b ∷ []) e = absurd (omega arith)
+total_is (suc n) (a ∷ b ∷ c ∷ []) e = absurd (omega arith)
+total_is (suc n) (a ∷ b ∷ c ∷ d ∷ s) e = omega (arith, total_is n s (omega arith))
+
+-- one word more
+pub values_more : (i : ℕ) (ws : List (List ℕ)) → i < length ws → values (drop i ws) ≡ from_le_bytes w32 (get_or ws i []) + values (drop (i + 1) ws)
+unfolding values
+values_more i ws h = rw (drop-cons ws i [] h, add-one)
+
+pub values_end : (i : ℕ) (ws : List (List ℕ)) → length ws ≤ i → values (drop i ws) ≡ 0
+unfolding values
+values_end i ws h = rw (drop_of_length-le ws h)
 
 -- the sum is a word
 pub sum_word : (body : List ℕ) → sum_of body < 4294967296

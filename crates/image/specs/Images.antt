@@ -1,14 +1,12 @@
 -- Paper 01, "Bench images and the upgrade": where an image starts, its header, and the seven checks in their order.
 -- S is the size of a sector; `s` is the flash from the image's first byte on.
-use Rattle.std.specs.Prelude.{ℕ, zero, suc, ◌+◌, ◌-◌, ◌*◌, ◌%◌, ◌≤◌, Bool, not, ◌&&◌, ◌||◌, List, [], ◌∷◌, take, drop, ◌==◌, nat_le}
+use Rattle.std.specs.Prelude.{ℕ, zero, suc, ◌+◌, ◌-◌, ◌*◌, ◌%◌, ◌≤◌, Bool, not, ◌&&◌, ◌||◌, List, [], ◌∷◌, take, drop, ◌==◌, nat_le, Option, Some, None}
 use Rattle.basics.specs.Choice.{pick}
 use Rattle.basics.specs.Words.{byte_at, word_at}
 use Rattle.answer.specs.declared.Failure.TheVariants.{NoImage, BadHeader, NoRoom, WrongSum, NotSealed, WrongTag, UnderFloor}
 use Rattle.answer.specs.declared.Checked.{Checked}
 use Rattle.answer.specs.declared.Checked.TheVariants.{Good, Fails, Erases}
 use Rattle.sectors.specs.Sectors.{sectors_for, put_sector, erased}
-use Rattle.image.specs.declared.Found.{Found}
-use Rattle.image.specs.declared.Found.TheVariants.{At, Nowhere}
 use Rattle.image.specs.declared.Header.{Header}
 use Rattle.image.specs.declared.Terms.{Terms}
 use Rattle.image.specs.Sums.{begins, sum_of}
@@ -18,9 +16,9 @@ abbrev pub mark : List ℕ
 mark = 0x42 ∷ 0x4E ∷ 0x49 ∷ 1 ∷ 0 ∷ []
 
 -- the search: from boundary - 1 down to 0, the first sector that starts with the five bytes of mark and version
-unfoldable pub find : ℕ → List ℕ → ℕ → Found
-find S F zero = Nowhere
-find S F (suc t) = pick (begins (drop (t * S) F) mark) (At t) (find S F t)
+unfoldable pub find : ℕ → List ℕ → ℕ → Option ℕ
+find S F zero = None
+find S F (suc t) = pick (begins (drop (t * S) F) mark) (Some t) (find S F t)
 
 -- kind (5), seal (6), user tag (7), size of all (8), image version (12), sum (16)
 abbrev pub header_of : List ℕ → Header
@@ -79,9 +77,9 @@ unfoldable pub judged : ℕ → Terms → List ℕ → List ℕ → ℕ → Chec
 judged S terms key s p = decided S terms p (header_of s) (body_sum s (header_of s).size) (tag_key_is s key)
 
 -- check 1, then those
-abbrev pub after_find : ℕ → Terms → List ℕ → List ℕ → Found → Checked
-after_find S terms key F Nowhere = Fails NoImage
-after_find S terms key F (At p) = judged S terms key (drop (p * S) F) p
+abbrev pub after_find : ℕ → Terms → List ℕ → List ℕ → Option ℕ → Checked
+after_find S terms key F None = Fails NoImage
+after_find S terms key F (Some p) = judged S terms key (drop (p * S) F) p
 
 unfoldable pub checked_of : ℕ → Terms → List ℕ → List ℕ → Checked
 checked_of S terms key F = after_find S terms key F (find S F terms.boundary)

@@ -19,13 +19,6 @@ use Rattle.soundness.specs.Sound.{plan_for}
 use Rattle.device.specs.Modes.{recorded_in}
 use Rattle.jobs.specs.Jobs.{next_store, Within, Doing}
 
--- the new stack lies below FUS
-pub stack_low : (S top : ℕ) (h : Head) (p size version recorded : ℕ) → Doing S top h → h.mode ≡ Upgrade p size version recorded → (sectors_for S size ≤ top) × (top ≤ 65536)
-stack_low S top h p size version recorded d e =
-    let room = rw e at d.able.room in
-    let under = rw e at d.able.under in
-    (omega arith, omega (arith, d.range.count))
-
 module _ {S top : ℕ} {h : Head} (d : Doing S top h) where
   pub made_few : h.made ≤ 2
   made_few = omega (arith, d.most, wants_is (plan_for S top h) (recorded_in h.mode))

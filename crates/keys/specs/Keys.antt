@@ -1,9 +1,12 @@
 -- Paper 01, "FUS idle", the user keys: STORE, LOAD, LOCK and UNLOAD on a head and what was looked up.
-use Rattle.std.specs.Prelude.{ℕ, ◌+◌, Bool, not, ◌&&◌, ◌||◌, leb, eqb}
+use Rattle.std.specs.Prelude.{ℕ, ◌+◌, Result, Ok, Err, Bool, not, ◌&&◌, ◌||◌, leb, eqb}
 use Rattle.basics.specs.Choice.{pick}
+use Rattle.answer.specs.declared.Failure.{Failure}
 use Rattle.answer.specs.declared.Failure.TheVariants.{BadType, BadSize, SecondMaster, StoreFull, NotStored, KeyLocked, NoMaster, NotLoaded}
 use Rattle.answer.specs.declared.Answer.TheVariants.{Stored, Accepted}
 use Rattle.device.specs.declared.Head.{Head}
+use Rattle.keys.specs.declared.KeyType.{KeyType}
+use Rattle.keys.specs.declared.KeyType.TheVariants.{Simple, Master, Encrypted}
 use Rattle.device.specs.Types.{Step, Look, Keep, Lock, Put}
 use Rattle.device.specs.Heads.{with_loaded, with_count}
 use Rattle.device.specs.Steps.{failed, accepted}
@@ -15,6 +18,15 @@ type_lawful kind = eqb kind 1 || eqb kind 2 || eqb kind 3
 abbrev pub key_lawful : ℕ → ℕ → Bool
 key_lawful kind n =
     ((eqb kind 1 || eqb kind 2) && (eqb n 16 || eqb n 32)) || (eqb kind 3 && (eqb n 28 || eqb n 44))
+
+-- the byte of a type, and the type of a byte
+abbrev pub kind_of : KeyType → ℕ
+kind_of Simple = 1
+kind_of Master = 2
+kind_of Encrypted = 3
+
+unfoldable pub type_of : ℕ → Result KeyType Failure
+type_of kind = pick (eqb kind 1) (Ok Simple) (pick (eqb kind 2) (Ok Master) (pick (eqb kind 3) (Ok Encrypted) (Err BadType)))
 
 -- in this order: bad type, bad size, second master, 100 keys already (types 1 and 3). The master's index is 0; others get 1 to 100 in order
 unfoldable pub store_key : Head → Look → ℕ → ℕ → Step

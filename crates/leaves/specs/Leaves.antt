@@ -1,9 +1,7 @@
 -- The leaves that touch flash, for every input: what asks for a sector that is not there does nothing.
-use Rattle.std.specs.Prelude.{ℕ, ◌/◌, List, Bool, not, ◌&&◌, eqb, leb, ltb, length}
+use Rattle.std.specs.Prelude.{ℕ, ◌/◌, List, Bool, not, ◌&&◌, eqb, leb, ltb, length, Option, Some, None}
 use Rattle.basics.specs.Choice.{pick}
 use Rattle.sectors.specs.Sectors.{sector, put_sector, erased, fit}
-use Rattle.image.specs.declared.Found.{Found}
-use Rattle.image.specs.declared.Found.TheVariants.{At, Nowhere}
 use Rattle.image.specs.Images.{find}
 
 -- how many sectors of S bytes n bytes hold
@@ -20,9 +18,9 @@ unfoldable pub copy_of : ℕ → List ℕ → ℕ → ℕ → ℕ → List ℕ
 copy_of S F s t count = pick (copies S (length F) s t count) (put_sector S F t (fit S count (sector S F s))) F
 
 -- the sector that was found, or the boundary
-abbrev pub sector_or : Found → ℕ → ℕ
-sector_or (At p) boundary = p
-sector_or Nowhere boundary = boundary
+abbrev pub sector_or : Option ℕ → ℕ → ℕ
+sector_or (Some p) boundary = p
+sector_or None boundary = boundary
 
 -- mark and version have five bytes
 abbrev pub searches : ℕ → ℕ → ℕ → Bool

@@ -1,6 +1,6 @@
 -- Laws on the lines that are written.
 use Prim.Native.Nat.{ℕ, suc, ◌+◌, ◌/◌, ◌%◌, ◌<◌, ◌≤◌}
-use mathlib.Core.Path.{◌≡◌, refl, sym, ap, ◌∙◌}
+use mathlib.Core.Path.{◌≡◌, refl, ap, ◌∙◌}
 use mathlib.Core.List.{List, [], ◌∷◌, ◌++◌}
 use native.Mathlib.Numerals.{add-one}
 use native.Mathlib.Omega.{arith}
@@ -8,11 +8,7 @@ use lib.ListN.{length, take, drop, set, length-append}
 use lib.Seq.{sets, sets-eq, take_at, length-take-le}
 use borrow.Author.Tests.{lt-ltb, le-ltb}
 use Rattle.basics.specs.Choice.{yes_by, no_by}
-use Rattle.line.specs.Hex.{capital, decimal_of}
-use Rattle.line.specs.Answer.{ok_line, Counted}
-
-pub counted : (n : ℕ) (s : List ℕ) → n ≤ length s → Counted n s
-counted n s h = (h, sym (length-take-le n s h))
+use Rattle.line.specs.Hex.{decimal_of}
 
 -- bytes stored behind the first `at` of a list, up to their end
 behind : (l : List ℕ) (at : ℕ) (vs : List ℕ) → at + length vs ≤ length l → take (at + length vs) (sets l at vs) ≡ take at l ++ vs
@@ -42,7 +38,3 @@ module _ (l : List ℕ) (at n : ℕ) (h : at + 4 ≤ length l) where
       let s : at + 2 ≡ suc (suc at) = omega arith in
       let t : at + 3 ≡ suc (suc (suc at)) = omega arith in
       rw (add-one at, s, t) (behind l at (ds ++ (10 ∷ [])) (omega arith) ∙ as_decimal ds (no_by _ _ _ _ (le-ltb n 10 e) (no_by _ _ _ _ (le-ltb n 100 f) refl)))
-
--- the line of a lawful command, by its four hex digits
-pub with_digits : (opcode n : ℕ) {a b c d : ℕ} → a ≡ capital (opcode / 4096) → b ≡ capital (opcode / 256 % 16) → c ≡ capital (opcode / 16 % 16) → d ≡ capital (opcode % 16) → 111 ∷ 107 ∷ 32 ∷ a ∷ b ∷ c ∷ d ∷ 32 ∷ (decimal_of n ++ (10 ∷ [])) ≡ ok_line opcode n
-with_digits opcode n ea eb ec ed = cc

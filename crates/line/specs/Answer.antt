@@ -1,8 +1,8 @@
 -- Paper 01, the small program that reads one packet a line in hex: the line that answers a line.
-use Rattle.std.specs.Prelude.{ℕ, ◌≤◌, ◌≡◌, List, [], ◌∷◌, ◌++◌, leb, length, take}
+use Rattle.std.specs.Prelude.{ℕ, ◌≤◌, ◌≡◌, List, [], ◌∷◌, ◌++◌, Result, Ok, Err, leb, length, take}
 use Rattle.basics.specs.Choice.{pick}
-use Rattle.packet.specs.declared.Reading.{Reading}
-use Rattle.packet.specs.declared.Reading.TheVariants.{Lawful, Refused}
+use Rattle.packet.specs.declared.Refusal.{Refusal}
+use Rattle.packet.specs.declared.Request.{Request}
 use Rattle.packet.specs.Packets.{number_of, opcode_of, read_of}
 use Rattle.line.specs.Hex.{are_pairs, bytes_of, hex_of, decimal_of}
 
@@ -18,9 +18,9 @@ no_line n = 110 ∷ 111 ∷ 32 ∷ (decimal_of n ++ (10 ∷ []))
 abbrev pub bad_line : List ℕ
 bad_line = 98 ∷ 97 ∷ 100 ∷ 10 ∷ []
 
-abbrev pub line_of : Reading → List ℕ
-line_of (Lawful command n) = ok_line (opcode_of command) n
-line_of (Refused refusal) = no_line (number_of refusal)
+abbrev pub line_of : Result Request Refusal → List ℕ
+line_of (Ok request) = ok_line (opcode_of request.command) request.length
+line_of (Err refusal) = no_line (number_of refusal)
 
 -- over 520 digits or no hex pairs: bad; an empty line is an empty packet
 unfoldable pub answer_of : List ℕ → List ℕ

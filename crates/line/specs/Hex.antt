@@ -1,5 +1,5 @@
 -- A line of hex digits, in pairs, and the digits that are printed.
-use Rattle.std.specs.Prelude.{ℕ, ◌+◌, ◌-◌, ◌*◌, ◌/◌, ◌%◌, Bool, true, false, List, [], ◌∷◌, ltb}
+use Rattle.std.specs.Prelude.{ℕ, ◌+◌, ◌-◌, ◌*◌, ◌/◌, ◌%◌, Bool, true, false, List, [], ◌∷◌, Option, Some, None, ltb}
 use Rattle.basics.specs.Choice.{pick}
 
 -- the value of a digit of either case, and 16 of any other character
@@ -14,6 +14,14 @@ nibble_of c =
 
 abbrev pub is_hex : ℕ → Bool
 is_hex c = ltb (nibble_of c) 16
+
+-- the value of a digit, if it is one
+abbrev pub digit_of : ℕ → Option ℕ
+digit_of c = pick (is_hex c) (Some (nibble_of c)) None
+
+-- the byte that two of them stand for
+abbrev pub pair_of : ℕ → ℕ → Option ℕ
+pair_of a b = pick (is_hex a) (pick (is_hex b) (Some (16 * nibble_of a + nibble_of b)) None) None
 
 -- the line is pairs of digits and nothing else
 unfoldable pub are_pairs : List ℕ → Bool

@@ -1,134 +1,125 @@
 // A line of hex, and the line that answers it.
 #![tactic(auto)]
 
-ghost use Rattle.std.specs.Prelude.{◌≤◌, ◌<◌, ◌*◌, ◌/◌, ◌≡◌, true, [], ◌∷◌, ◌++◌, length, take};
+ghost use Rattle.std.specs.Prelude.{◌≤◌, ◌<◌, ◌*◌, ◌/◌, ◌≡◌, [], ◌∷◌, ◌++◌, length, take, is_some, IfSome};
 ghost use Rattle.packet.specs.Packets.{opcode_of, number_of};
-ghost use Rattle.line.specs.Hex.{nibble_of, are_pairs, bytes_of, capital, decimal_of};
+ghost use Rattle.line.specs.Hex.{digit_of, pair_of, are_pairs, bytes_of, capital, decimal_of};
 ghost use Rattle.line.specs.Answer.{ok_line, no_line, bad_line, line_of, answer_of, Counted};
 
-use packet::{Command, Reading, Refusal};
+use packet::{Command, Refusal, Request};
 
 // The most digits of a line that is read.
 pub const LONGEST: usize = 520;
 
 // A line with its newline: the first `len` bytes.
+// Kept: `answer` can't fail and there is no heap, so the line stands in a fixed array with its length.
 #[derive(Clone, Copy)]
 pub struct Text {
     pub bytes: [u8; 12],
     pub len: usize,
+    pub ghost fits: { Counted len bytes },
 }
 
-// The value of a hex digit, and 16 of any other character.
-pub fn nibble(c: u8) -> u8
-    ensures value { result ≡ nibble_of c }
-    ensures small { result ≤ 16 }
+impl Text {
+    // The line alone.
+    pub fn as_slice(&self) -> &[u8]
+        ensures { result.now ≡ take self.now.len self.now.bytes }
+    {
+        &self.bytes[..self.len]
+    }
+}
+
+// The value of a hex digit of either case.
+// Kept: hex read and written digit by digit, here and in `pair`, `decode` and `digit`: the library has no digit of a base, and `nibble_of` and `capital` say each.
+#[tactic(auto, unfolding(basics::specs::Choice::pick))]
+pub fn nibble(c: u8) -> Option<u8>
+    ensures { result ≡ digit_of c }
 {
-    if c < 48 {
-        return 16;
+    match c {
+        b'0'..=b'9' => Some(c - b'0'),
+        b'A'..=b'F' => Some(c - b'A' + 10),
+        b'a'..=b'f' => Some(c - b'a' + 10),
+        _ => None,
     }
-    if c < 58 {
-        return c - 48;
-    }
-    if c < 65 {
-        return 16;
-    }
-    if c < 71 {
-        return c - 55;
-    }
-    if c < 97 {
-        return 16;
-    }
-    if c < 103 {
-        return c - 87;
-    }
-    16
 }
 
-// Puts the bytes that the pairs of a line stand for into out. False where the line is no pairs.
-pub fn decode(line: &[u8], out: &mut [u8]) -> bool
+// The byte that a pair of digits stands for.
+#[tactic(auto, unfolding(basics::specs::Choice::pick))]
+pub fn pair(high: u8, low: u8) -> Option<u8>
+    ensures { result ≡ pair_of high low }
+{
+    Some(16 * nibble(high)? + nibble(low)?)
+}
+
+// The bytes that the pairs of a line stand for, written to the start of out. None where the line is not made of pairs.
+pub fn decode<'a>(line: &[u8], out: &'a mut [u8]) -> Option<&'a [u8]>
     requires { length line.now ≤ 2 * length out.old }
-    ensures pairs { result ≡ are_pairs line.now }
-    ensures bytes { result ≡ true → take (length line.now / 2) out.new ≡ bytes_of line.now }
+    ensures pairs { is_some result ≡ are_pairs line.now }
+    ensures bytes { IfSome result (λ bytes. bytes.now ≡ bytes_of line.now) }
 {
-    let n = line.len();
-    if n % 2 != 0 {
-        return false;
+    let (pairs, []) = line.as_chunks::<2>() else {
+        return None;
+    };
+    for (i, [high, low]) in pairs.iter().enumerate() {
+        out[i] = pair(*high, *low)?;
     }
-    let mut i = 0;
-    while i < n / 2 {
-        let a = nibble(line[2 * i]);
-        if 16 <= a {
-            return false;
-        }
-        let b = nibble(line[2 * i + 1]);
-        if 16 <= b {
-            return false;
-        }
-        out[i] = 16 * a + b;
-        i += 1;
-    }
-    true
+    Some(&out[..pairs.len()])
 }
 
 // A hex digit in capitals.
+#[tactic(auto, unfolding(basics::specs::Choice::pick))]
 pub fn digit(d: u8) -> u8
     requires { d < 16 }
     ensures { result ≡ capital d }
 {
-    if d < 10 {
-        return 48 + d;
-    }
-    55 + d
+    if d < 10 { b'0' + d } else { b'A' - 10 + d }
 }
 
 // The first `at` bytes of head, then a number in decimal and the newline.
+// Kept: the library prints numbers to a writer that can fail or to the heap, and `answer` can do neither.
 fn ended(head: [u8; 12], at: usize, n: u8) -> Text
     requires { at ≤ 8 }
-    ensures text { take result.len result.bytes ≡ take at head ++ (decimal_of n ++ (10 ∷ [])) }
-    ensures fits { Counted result.len result.bytes }
+    ensures { take result.len result.bytes ≡ take at head ++ (decimal_of n ++ (10 ∷ [])) }
 {
     let mut bytes = head;
     if n < 10 {
-        bytes[at] = 48 + n;
+        bytes[at] = b'0' + n;
         bytes[at + 1] = b'\n';
         return Text { bytes, len: at + 2 };
     }
     if n < 100 {
-        bytes[at] = 48 + n / 10;
-        bytes[at + 1] = 48 + n % 10;
+        bytes[at] = b'0' + n / 10;
+        bytes[at + 1] = b'0' + n % 10;
         bytes[at + 2] = b'\n';
         return Text { bytes, len: at + 3 };
     }
-    bytes[at] = 48 + n / 100;
-    bytes[at + 1] = 48 + n / 10 % 10;
-    bytes[at + 2] = 48 + n % 10;
+    bytes[at] = b'0' + n / 100;
+    bytes[at + 1] = b'0' + n / 10 % 10;
+    bytes[at + 2] = b'0' + n % 10;
     bytes[at + 3] = b'\n';
     Text { bytes, len: at + 4 }
 }
 
 fn ok_text(command: Command, n: u8) -> Text
-    ensures text { take result.len result.bytes ≡ ok_line (opcode_of command) n }
-    ensures fits { Counted result.len result.bytes }
+    ensures { take result.len result.bytes ≡ ok_line (opcode_of command) n }
 {
-    let opcode = packet::opcode_of(command);
-    let a = digit((opcode / 4096) as u8);
-    let b = digit((opcode / 256 % 16) as u8);
-    let c = digit((opcode / 16 % 16) as u8);
-    let d = digit((opcode % 16) as u8);
+    let [high, low] = u16::from(command).to_be_bytes();
+    let a = digit(high / 16);
+    let b = digit(high % 16);
+    let c = digit(low / 16);
+    let d = digit(low % 16);
     ended([b'o', b'k', b' ', a, b, c, d, b' ', 0, 0, 0, 0], 8, n)
 }
 
 fn no_text(refusal: Refusal) -> Text
-    ensures text { take result.len result.bytes ≡ no_line (number_of refusal) }
-    ensures fits { Counted result.len result.bytes }
+    ensures { take result.len result.bytes ≡ no_line (number_of refusal) }
 {
-    let n = packet::number(refusal);
+    let n = u8::from(refusal);
     ended([b'n', b'o', b' ', 0, 0, 0, 0, 0, 0, 0, 0, 0], 3, n)
 }
 
 fn bad_text() -> Text
-    ensures text { take result.len result.bytes ≡ bad_line }
-    ensures fits { Counted result.len result.bytes }
+    ensures { take result.len result.bytes ≡ bad_line }
 {
     Text {
         bytes: [b'b', b'a', b'd', b'\n', 0, 0, 0, 0, 0, 0, 0, 0],
@@ -136,28 +127,25 @@ fn bad_text() -> Text
     }
 }
 
-fn reading_text(reading: Reading) -> Text
-    ensures text { take result.len result.bytes ≡ line_of reading }
-    ensures fits { Counted result.len result.bytes }
+fn reading_text(reading: Result<Request, Refusal>) -> Text
+    ensures { take result.len result.bytes ≡ line_of reading }
 {
     match reading {
-        Reading::Lawful { command, length } => ok_text(command, length),
-        Reading::Refused(refusal) => no_text(refusal),
+        Ok(Request { command, length }) => ok_text(command, length),
+        Err(refusal) => no_text(refusal),
     }
 }
 
 // The line that answers a line.
+#[tactic(auto, unfolding(basics::specs::Choice::pick, crate::specs::Answer::answer_of))]
 pub fn answer(line: &[u8]) -> Text
-    ensures text { take result.len result.bytes ≡ answer_of line.now }
-    ensures fits { Counted result.len result.bytes }
+    ensures { take result.len result.bytes ≡ answer_of line.now }
 {
     if LONGEST < line.len() {
         return bad_text();
     }
-    let mut bytes = [0u8; LONGEST / 2];
-    if !decode(line, &mut bytes) {
-        return bad_text();
+    match decode(line, &mut [0; LONGEST / 2]) {
+        Some(bytes) => reading_text(packet::read(bytes)),
+        None => bad_text(),
     }
-    let n = line.len() / 2;
-    reading_text(packet::read(&bytes[..n]))
 }

@@ -1,7 +1,9 @@
-// A file by the name that a program was given, read as far as there is room for it.
+// What a program reads: a file by the name that it was given, as far as there is room for it, and its input line by line.
 #![tactic(auto)]
 
-ghost use Rattle.std.specs.Prelude.{◌≤◌, IfOk, length};
+pub mod lines;
+
+ghost use Rattle.std.specs.Prelude.{◌≤◌, IfOk, IfSome, length};
 
 use std::io::Read;
 use std::rt::Files;
@@ -10,19 +12,9 @@ use std::{fs, io, str};
 // The system's number for a name that is no text.
 const NO_TEXT: i32 = 84;
 
-// What a file was read as: its first n bytes, and whether it has more.
-#[derive(Clone, Copy)]
-pub struct Loaded {
-    pub n: usize,
-    pub more: bool,
-}
-
 // The path that a name is: text, as the library takes no other.
 pub fn path(name: &[u8]) -> io::Result<&str> {
-    match str::from_utf8(name) {
-        Ok(path) => Ok(path),
-        Err(_) => Err(io::Error::from_raw_os_error(NO_TEXT)),
-    }
+    str::from_utf8(name).map_err(|_| io::Error::from_raw_os_error(NO_TEXT))
 }
 
 // Opens the file with this name.
@@ -30,7 +22,7 @@ pub fn open<R: Files>(rt: &R, name: &[u8]) -> io::Result<R::File> {
     fs::open(rt, path(name)?)
 }
 
-// Reads on until there is no more room, or no more to read; how many bytes.
+// Reads on until there is no more room, or no more to read; how many bytes. The count of turns is there because every loop must end.
 fn fill(file: &mut impl Read, room: &mut [u8]) -> io::Result<usize>
     ensures { IfOk result (λ n. n ≤ length room.new) }
 {
@@ -45,12 +37,13 @@ fn fill(file: &mut impl Read, room: &mut [u8]) -> io::Result<usize>
     Ok(n)
 }
 
-// Reads a file; where there is no more room, one read more tells whether the file has more.
-pub fn read(file: &mut impl Read, room: &mut [u8]) -> io::Result<Loaded>
-    ensures { IfOk result (λ loaded. loaded.n ≤ length room.new) }
+// The bytes of a file; `None` where it has more than there is room for, which one read more tells.
+pub fn read<'a>(file: &mut impl Read, room: &'a mut [u8]) -> io::Result<Option<&'a [u8]>>
+    ensures { IfOk result (λ bytes. IfSome bytes (λ b. length b.now ≤ length room.old)) }
 {
     let n = fill(file, room)?;
-    let mut next = [0u8; 1];
-    let more = n == room.len() && 0 < file.read(&mut next)?;
-    Ok(Loaded { n, more })
+    if n == room.len() && 0 < file.read(&mut [0])? {
+        return Ok(None);
+    }
+    Ok(Some(&room[..n]))
 }

@@ -1,3 +1,3 @@
 pub mod Laws
-pub mod Reader
 pub mod Digits
+pub mod Reader

@@ -9,13 +9,11 @@ use lib.ListN.{length, drop, length-append}
 use lib.Seq.{take_at, drop_at}
 use borrow.Author.Tests.{eqb-true, eq-eqb, leb-true, le-leb}
 use Rattle.basics.specs.Choice.{pick}
-use Rattle.basics.specs.Words.{zeros}
 use Rattle.basics.proofs.Words.{unword, flag_small, length_zeros}
 use Rattle.answer.specs.declared.Failure.TheVariants.{NotSealed, WrongTag}
 use Rattle.answer.specs.declared.Checked.{Checked}
 use Rattle.answer.specs.declared.Checked.TheVariants.{Good, Fails}
 use Rattle.sectors.specs.Sectors.{sectors_for}
-use Rattle.image.specs.declared.Found.TheVariants.{At}
 use Rattle.image.specs.declared.Header.{Header}
 use Rattle.image.specs.declared.Terms.{Terms}
 use Rattle.image.specs.Sums.{sum_of, begins}
@@ -26,20 +24,18 @@ use Rattle.device.specs.Kind.{sector_size, fus_sector}
 use Rattle.maker.specs.declared.Wanted.{Wanted}
 use Rattle.maker.specs.declared.Unmade.{Unmade}
 use Rattle.maker.specs.declared.Unmade.TheVariants.{NotWords, NoVersion, TooLong}
-use Rattle.maker.specs.declared.Made.{Made}
-use Rattle.maker.specs.declared.Made.TheVariants.{Image, Not}
-use Rattle.maker.specs.Made.{header_for, key_for, header_bytes, image_of, made_of, making, Makes, Stands}
+use Rattle.std.specs.Prelude.{Option, Some, None, Result, Ok, Err, is_some, IfSome}
+use Rattle.maker.specs.Made.{header_for, key_or_zeros, key_for, header_bytes, image_of, made_of, making, Makes, Stands}
 
 -- an image was picked, and so not the refusal
-picked : (t : Bool) (x : Made) (u : Unmade) (h : Header) → pick t x (Not u) ≡ Image h → (t ≡ true) × (x ≡ Image h)
+picked : (t : Bool) (x : Result Header Unmade) (u : Unmade) (h : Header) → pick t x (Err u) ≡ Ok h → (t ≡ true) × (x ≡ Ok h)
 unfolding pick
 picked true x u h e = (refl, e)
-picked false x u h e = let z : ◌≡◌ {A = ℕ} 0 1 = cc in absurd (omega arith)
+picked false x u h e = cc
 
-key_sized : (b : Bool) (key : List ℕ) → length key ≡ 64 → length (pick b key (zeros 64)) ≡ 64
-unfolding pick
-key_sized true key e = e
-key_sized false key e = length_zeros 64
+key_sized : (key : Option (List ℕ)) → IfSome key (λ k. length k ≡ 64) → length (key_or_zeros key) ≡ 64
+key_sized (Some key) e = e
+key_sized None e = length_zeros 64
 
 either_way : (auth : Bool) → (not auth || true) ≡ true
 either_way true = refl
@@ -50,7 +46,7 @@ record Passed (body : List ℕ) (w : Wanted) (h : Header) : Type 0 where
   pub words : length body % 4 ≡ 0
   pub version : version_lawful w.version ≡ true
   pub room : room_for sector_size 0 (84 + length body) fus_sector ≡ true
-  pub image : Image (header_for body w) ≡ Image h
+  pub image : ◌≡◌ {A = Result Header Unmade} (Ok (header_for body w)) (Ok h)
 
 module _ {body : List ℕ} {w : Wanted} {h : Header} (m : Makes body w h) where
   tests : Passed body w h
@@ -63,7 +59,7 @@ module _ {body : List ℕ} {w : Wanted} {h : Header} (m : Makes body w h) where
 
   -- the header is the one that was wanted
   pub header_is : h ≡ header_for body w
-  header_is = let e : Image (header_for body w) ≡ Image h = tests.image in cc
+  header_is = let e = tests.image in cc
 
   size_word : 84 + length body < 4294967296
   size_word =
@@ -72,11 +68,11 @@ module _ {body : List ℕ} {w : Wanted} {h : Header} (m : Makes body w h) where
 
   key_length : length (key_for w) ≡ 64
   unfolding key_for
-  key_length = key_sized w.tagged w.key m.key
+  key_length = key_sized w.key m.key
 
-  key_kept : w.tagged ≡ true → key_for w ≡ w.key
-  unfolding key_for pick
-  key_kept tagged = rw tagged
+  key_kept : (key : List ℕ) → w.key ≡ Some key → key_for w ≡ key
+  unfolding key_for
+  key_kept key tagged = rw tagged
 
   -- check 2 holds of it
   pub made_lawful : header_lawful h ≡ true
@@ -85,16 +81,16 @@ module _ {body : List ℕ} {w : Wanted} {h : Header} (m : Makes body w h) where
       rw (
         header_is,
         flag_small w.sealed,
-        flag_small w.tagged,
+        flag_small (is_some w.key),
         le-leb 84 (84 + length body) (omega arith),
         eq-eqb ((84 + length body) % 4) 0 words,
         tests.version,
       )
 
-  -- what make gives back, with the body behind it, is the image
-  pub image_is : (making body w).header ++ body ≡ image_of body w
+  -- what make gives back is this header, and bytes that are the image with the body behind them
+  pub image_is : (making body w ≡ Ok (record { header = h; bytes = header_bytes h (key_for w) })) × (header_bytes h (key_for w) ++ body ≡ image_of body w)
   unfolding making image_of
-  image_is = rw (m.made, header_is)
+  image_is = (rw m.made refl, rw header_is refl)
 
   -- which has the size that its header says
   pub image_sized : length (image_of body w) ≡ h.size
@@ -129,10 +125,10 @@ module _ {body : List ℕ} {w : Wanted} {h : Header} (m : Makes body w h) where
         rw (body_stands, header_is, n, take_at body rest (length body) refl)
 
     -- with its tag key on the device, the tag is lawful, whether an authentication key is stored or not
-    pub tag_taken : w.tagged ≡ true → (auth : Bool) → tag_lawful auth h.tag (tag_key_is (image_of body w ++ rest) w.key) ≡ true
-    tag_taken tagged auth =
-        let k : key_for w ≡ w.key = key_kept tagged in
-        let same : tag_key_is (image_of body w ++ rest) w.key ≡ true = rw (key_stands, k) (begins_front w.key (body ++ rest)) in
+    pub tag_taken : (key : List ℕ) → w.key ≡ Some key → (auth : Bool) → tag_lawful auth h.tag (tag_key_is (image_of body w ++ rest) key) ≡ true
+    tag_taken key tagged auth =
+        let k : key_for w ≡ key = key_kept key tagged in
+        let same : tag_key_is (image_of body w ++ rest) key ≡ true = rw (key_stands, k) (begins_front key (body ++ rest)) in
         rw (same, header_is, tagged) (either_way auth)
 
     module _ (S : ℕ) (terms : Terms) (key : List ℕ) (p : ℕ) (room : room_for S p h.size terms.boundary ≡ true) where
@@ -157,7 +153,7 @@ module _ {body : List ℕ} {w : Wanted} {h : Header} (m : Makes body w h) where
           read (Fails NotSealed) (rw (made_lawful, room, eq-eqb h.sum h.sum refl, seal))
 
       -- and one with no tag is not taken where an authentication key is stored
-      pub untagged : w.sealed ≡ true → w.tagged ≡ false → terms.auth ≡ true → judged S terms key (image_of body w ++ rest) p ≡ Fails WrongTag
+      pub untagged : w.sealed ≡ true → w.key ≡ None → terms.auth ≡ true → judged S terms key (image_of body w ++ rest) p ≡ Fails WrongTag
       unfolding decided pick
       untagged sealed none auth =
           let seal : eqb h.seal 1 ≡ true = rw (header_is, sealed) in
@@ -170,7 +166,7 @@ module _ {body : List ℕ} {w : Wanted} {h : Header} (m : Makes body w h) where
       checked_there F s r e =
           let most : p + sectors_for S h.size + 1 ≤ terms.boundary = leb-true (p + sectors_for S h.size + 1) terms.boundary room in
           let hit : begins (drop (p * S) F) mark ≡ true = rw s.there mark_stands in
-          let found : find S F terms.boundary ≡ At p = find_highest S F p terms.boundary (omega arith) hit s.highest in
+          let found : find S F terms.boundary ≡ Some p = find_highest S F p terms.boundary (omega arith) hit s.highest in
           sym (checked_found S terms key F p (find S F terms.boundary) refl found) ∙ rw s.there e
 
       pub checked_taken : (F : List ℕ) → Stands S F p terms.boundary (image_of body w) rest
@@ -182,7 +178,7 @@ module _ {body : List ℕ} {w : Wanted} {h : Header} (m : Makes body w h) where
 
 -- what a device of this kind could take is made: nothing else is refused
 pub made_if : (body : List ℕ) (w : Wanted) (p boundary : ℕ) → boundary ≤ fus_sector → header_lawful (header_for body w) ≡ true
-    → room_for sector_size p (84 + length body) boundary ≡ true → made_of body w ≡ Image (header_for body w)
+    → room_for sector_size p (84 + length body) boundary ≡ true → made_of body w ≡ Ok (header_for body w)
 unfolding made_of pick
 made_if body w p boundary top lawful room =
     let n = 84 + length body in

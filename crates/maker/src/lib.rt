@@ -4,7 +4,7 @@
 pub mod version;
 
 ghost use Rattle.std.specs.Prelude.{◌≡◌};
-ghost use Rattle.maker.specs.Made.{front_bytes, header_bytes, key_for, made_of, making};
+ghost use Rattle.maker.specs.Made.{header_bytes, key_for, made_of, making};
 
 use device::Device;
 use image::Header;
@@ -12,13 +12,12 @@ use image::Header;
 // The most bytes that a body can have: with no stack and the image at sector 0, check 3 leaves one sector of the flash over.
 pub const LONGEST: usize = (Device::FUS_SECTOR - 1) * Device::SECTOR_SIZE - 84;
 
-// What is wanted of an image. Without a tag its key does not count.
+// What is wanted of an image: its version, a seal, and a tag under a key.
 #[derive(Clone, Copy)]
 pub struct Wanted {
     pub version: u32,
     pub sealed: bool,
-    pub tagged: bool,
-    pub key: [u8; 64],
+    pub key: Option<[u8; 64]>,
 }
 
 // Why a body can't be an image: the first that applies, in this order.
@@ -32,87 +31,54 @@ pub enum Unmade {
     TooLong,
 }
 
-// What a body can be made.
+// The header that was made, and its bytes.
 #[derive(Clone, Copy)]
-pub enum Made {
-    Image(Header),
-    Not(Unmade),
+pub struct Made {
+    pub header: Header,
+    pub bytes: [u8; 84],
 }
 
-// What was made, and its bytes; all zeros where nothing was.
-#[derive(Clone, Copy)]
-pub struct Making {
-    pub made: Made,
-    pub header: [u8; 84],
-}
-
-// A header's bytes up to the tag key.
-fn front_bytes(h: Header) -> [u8; 20]
-    ensures { result ≡ front_bytes h }
-{
-    [
-        b'B',
-        b'N',
-        b'I',
-        1,
-        0,
-        h.kind,
-        h.seal,
-        h.tag,
-        (h.size % 256) as u8,
-        (h.size / 256 % 256) as u8,
-        (h.size / 65536 % 256) as u8,
-        (h.size / 16777216 % 256) as u8,
-        (h.version % 256) as u8,
-        (h.version / 256 % 256) as u8,
-        (h.version / 65536 % 256) as u8,
-        (h.version / 16777216 % 256) as u8,
-        (h.sum % 256) as u8,
-        (h.sum / 256 % 256) as u8,
-        (h.sum / 65536 % 256) as u8,
-        (h.sum / 16777216 % 256) as u8,
-    ]
-}
-
-// All of them.
+// A header's bytes.
+#[tactic(auto, unfolding(crate::specs::Made::header_bytes))]
 fn header_bytes(h: Header, key: [u8; 64]) -> [u8; 84]
     ensures { result ≡ header_bytes h key }
 {
-    let front = front_bytes(h);
-    let mut bytes = [0u8; 84];
-    bytes[..front.len()].copy_from_slice(&front);
+    let mut bytes = [0; 84];
+    bytes[..8].copy_from_slice(&[b'B', b'N', b'I', 1, 0, h.kind, h.seal, h.tag]);
+    bytes[8..12].copy_from_slice(&h.size.to_le_bytes());
+    bytes[12..16].copy_from_slice(&h.version.to_le_bytes());
+    bytes[16..20].copy_from_slice(&h.sum.to_le_bytes());
     bytes[20..].copy_from_slice(&key);
     bytes
 }
 
 // The tag key that stands in the image: zeros where there is none.
+#[tactic(auto, unfolding(crate::specs::Made::key_for, basics::specs::Words::zeros))]
 fn key_for(wanted: Wanted) -> [u8; 64]
     ensures { result ≡ key_for wanted }
 {
-    if wanted.tagged {
-        return wanted.key;
-    }
-    [0u8; 64]
+    wanted.key.unwrap_or([0; 64])
 }
 
 // Whether a body can be an image, and its header.
-fn made_of(body: &[u8], wanted: Wanted) -> Made
+#[tactic(auto, using(crate::proofs::Laws::fits, crate::proofs::Laws::too_long), unfolding(crate::specs::Made::made_of, basics::specs::Choice::pick))]
+fn made_of(body: &[u8], wanted: Wanted) -> Result<Header, Unmade>
     ensures { result ≡ made_of body.now wanted }
 {
     let n = body.len();
     if n % 4 != 0 {
-        return Made::Not(Unmade::NotWords);
+        return Err(Unmade::NotWords);
     }
     if wanted.version == 0xFFFFFFFF {
-        return Made::Not(Unmade::NoVersion);
+        return Err(Unmade::NoVersion);
     }
     if LONGEST < n {
-        return Made::Not(Unmade::TooLong);
+        return Err(Unmade::TooLong);
     }
-    Made::Image(Header {
+    Ok(Header {
         kind: 1,
         seal: wanted.sealed as u8,
-        tag: wanted.tagged as u8,
+        tag: wanted.key.is_some() as u8,
         size: 84 + n as u32,
         version: wanted.version,
         sum: image::image_sum(body),
@@ -120,17 +86,11 @@ fn made_of(body: &[u8], wanted: Wanted) -> Made
 }
 
 // The header of the image that `body` is the body of.
-pub fn make(body: &[u8], wanted: Wanted) -> Making
+#[tactic(auto, unfolding(crate::specs::Made::making))]
+pub fn make(body: &[u8], wanted: Wanted) -> Result<Made, Unmade>
     ensures { result ≡ making body.now wanted }
 {
-    match made_of(body, wanted) {
-        Made::Image(h) => Making {
-            made: Made::Image(h),
-            header: header_bytes(h, key_for(wanted)),
-        },
-        Made::Not(unmade) => Making {
-            made: Made::Not(unmade),
-            header: [0u8; 84],
-        },
-    }
+    let header = made_of(body, wanted)?;
+    let bytes = header_bytes(header, key_for(wanted));
+    Ok(Made { header, bytes })
 }

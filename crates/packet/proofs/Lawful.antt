@@ -14,11 +14,9 @@ use Rattle.packet.specs.declared.Refusal.{Refusal}
 use Rattle.packet.specs.declared.Refusal.TheVariants.{UnsoundRecord, FlashLength, ReplyShort, PacketShort, NoCommand, LengthDiffers, OpcodeUnlisted, PayloadLength, InnerSize, FillerLength}
 use Rattle.packet.specs.declared.Command.{Command}
 use Rattle.packet.specs.declared.Command.TheVariants.{GetState, FwUpgrade, FwDelete, UpdateAuthKey, LockAuthKey, StoreUsrKey, LoadUsrKey, StartWs, LockUsrKey, UnloadUsrKey, ActivateAntirollback}
-use Rattle.packet.specs.declared.Opcode.{Opcode}
-use Rattle.packet.specs.declared.Opcode.TheVariants.{Listed, Unlisted}
-use Rattle.packet.specs.declared.Reading.{Reading}
-use Rattle.packet.specs.declared.Reading.TheVariants.{Lawful, Refused}
-use Rattle.packet.specs.Packets.{number_of, opcode_of, command_of, length_allowed, inner_allowed, judged, read_of}
+use Rattle.std.specs.Prelude.{Option, Some, None, Result, Ok, Err}
+use Rattle.packet.specs.declared.Request.{Request}
+use Rattle.packet.specs.Packets.{number_of, opcode_of, command_of, lawful_of, length_allowed, inner_allowed, judged, read_of}
 use Rattle.packet.specs.Lawful.{Payload, empty, index, auth_key, user_key, payload_of, shortest, longest, Holds, Allowed, packet_of, LawfulPacket, lawful, Bytes, LengthListed, Applies, NoneBelow, Given}
 
 -- what holds of both answers of a test, by what the test says, holds of the answer
@@ -37,7 +35,7 @@ never e = let z : ◌≡◌ {A = ℕ} 0 1 = cc in absurd (omega arith)
 
 -- ---- a command is known by its opcode, a refusal by its number
 
-listed : (c : Command) → command_of (opcode_of c) ≡ Listed c
+listed : (c : Command) → command_of (opcode_of c) ≡ Some c
 unfolding command_of pick
 listed GetState = refl
 listed FwUpgrade = refl
@@ -53,22 +51,22 @@ listed ActivateAntirollback = refl
 
 same_command : (c d : Command) → opcode_of c ≡ opcode_of d → c ≡ d
 same_command c d e =
-    let f : Listed c ≡ Listed d = sym (listed c) ∙ ap command_of e ∙ listed d in
+    let f : Some c ≡ Some d = sym (listed c) ∙ ap command_of e ∙ listed d in
     cc
 
-abbrev Names : ℕ → Opcode → Type 0
-Names opcode (Listed c) = opcode_of c ≡ opcode
-Names opcode Unlisted = Unit
+abbrev Names : ℕ → Option Command → Type 0
+Names opcode (Some c) = opcode_of c ≡ opcode
+Names opcode None = Unit
 
-named : (opcode : ℕ) (c : Command) (o : Opcode) → Names opcode o → Names opcode (pick (eqb opcode (opcode_of c)) (Listed c) o)
-named opcode c o n = split (Names opcode) (eqb opcode (opcode_of c)) (Listed c) o (λ e. sym (eqb-true _ _ e)) (λ e. n)
+named : (opcode : ℕ) (c : Command) (o : Option Command) → Names opcode o → Names opcode (pick (eqb opcode (opcode_of c)) (Some c) o)
+named opcode c o n = split (Names opcode) (eqb opcode (opcode_of c)) (Some c) o (λ e. sym (eqb-true _ _ e)) (λ e. n)
 
 names : (opcode : ℕ) → Names opcode (command_of opcode)
 unfolding command_of
 names op =
     named op GetState _ (named op FwUpgrade _ (named op FwDelete _ (named op UpdateAuthKey _ (named op LockAuthKey _
     (named op StoreUsrKey _ (named op LoadUsrKey _ (named op StartWs _ (named op LockUsrKey _ (named op UnloadUsrKey _
-    (named op ActivateAntirollback Unlisted tt))))))))))
+    (named op ActivateAntirollback None tt))))))))))
 
 -- the refusal at its number
 abbrev in_order : List Refusal
@@ -205,12 +203,12 @@ holds_length user_key p (kind, key, e, l) = let h : length p ≡ suc (suc (lengt
 -- ---- what reading finds
 
 -- a packet that is taken is the command's, with a payload that it allows; a refusal is given as the table says
-abbrev Outcome : List ℕ → Reading → Type 0
-Outcome s (Lawful c n) = (p : List ℕ) × Allowed c p × (length p ≡ n) × (s ≡ packet_of c p)
-Outcome s (Refused r) = Given r s
+abbrev Outcome : List ℕ → Result Request Refusal → Type 0
+Outcome s (Ok l) = (p : List ℕ) × Allowed l.command p × (length p ≡ l.length) × (s ≡ packet_of l.command p)
+Outcome s (Err r) = Given r s
 
 -- the bytes of a packet that has a head, a command's opcode and a right length
-assembled : (c : Command) (s : List ℕ) → Bytes s → 4 ≤ length s → byte_at s 0 ≡ 0x10 → byte_at s 3 + 4 ≡ length s → opcode_of c ≡ half_at s 1 → length_allowed c (byte_at s 3) ≡ true → inner_allowed c s (byte_at s 3) ≡ true → Outcome s (Lawful c (byte_at s 3))
+assembled : (c : Command) (s : List ℕ) → Bytes s → 4 ≤ length s → byte_at s 0 ≡ 0x10 → byte_at s 3 + 4 ≡ length s → opcode_of c ≡ half_at s 1 → length_allowed c (byte_at s 3) ≡ true → inner_allowed c s (byte_at s 3) ≡ true → Outcome s (lawful_of c (byte_at s 3))
 assembled c [] b h f m o l i = absurd (omega arith)
 assembled c (w ∷ []) b h f m o l i = absurd (omega arith)
 assembled c (w ∷ x ∷ []) b h f m o l i = absurd (omega arith)
@@ -236,7 +234,7 @@ module _ (s : List ℕ) (b : Bytes s) where
         below_7 : NoneBelow 7 s
         below_7 = next s LengthDiffers below_6 (λ a. a (omega (arith, length-drop 4 s)))
 
-        known : (c : Command) → opcode_of c ≡ half_at s 1 → Outcome s (judged (Listed c) s (byte_at s 3))
+        known : (c : Command) → opcode_of c ≡ half_at s 1 → Outcome s (judged (Some c) s (byte_at s 3))
         known c o =
             let below-8 : NoneBelow 8 s = next s OpcodeUnlisted below_7 (λ a. a c o) in
             split (Outcome s) (length_allowed c (byte_at s 3)) _ _
@@ -248,12 +246,12 @@ module _ (s : List ℕ) (b : Bytes s) where
             (λ i. (inner_wrong c s o n i, below-9)))
             (λ l. ((c, o, length_unlisted c (byte_at s 3) l), below-8))
 
-        unknown : command_of (half_at s 1) ≡ Unlisted → Given OpcodeUnlisted s
-        unknown e = (λ c o. let z : Listed c ≡ Unlisted = sym (listed c) ∙ ap command_of o ∙ e in let y : ◌≡◌ {A = ℕ} 0 1 = cc in omega arith, below_7)
+        unknown : command_of (half_at s 1) ≡ None → Given OpcodeUnlisted s
+        unknown e = (λ c o. let z : Some c ≡ None = sym (listed c) ∙ ap command_of o ∙ e in let y : ◌≡◌ {A = ℕ} 0 1 = cc in omega arith, below_7)
 
-        by_opcode : (o : Opcode) → command_of (half_at s 1) ≡ o → Outcome s (judged o s (byte_at s 3))
-        by_opcode Unlisted e = unknown e
-        by_opcode (Listed c) e = known c (subst (Names (half_at s 1)) e (names (half_at s 1)))
+        by_opcode : (o : Option Command) → command_of (half_at s 1) ≡ o → Outcome s (judged o s (byte_at s 3))
+        by_opcode None e = unknown e
+        by_opcode (Some c) e = known c (subst (Names (half_at s 1)) e (names (half_at s 1)))
 
   outcome : Outcome s (read_of s)
   unfolding read_of
@@ -300,13 +298,12 @@ module _ (c : Command) (p : List ℕ) (a : Allowed c p) where
 
 -- a lawful packet is read as what it is
 module _ (s : List ℕ) (c : Command) (p : List ℕ) (a : Allowed c p) (e : s ≡ packet_of c p) where
-  found : (r : Reading) → Outcome s r → r ≡ Lawful c (length p)
-  found (Lawful d n) (q, x, l, f) =
-      let o : opcode_of d ≡ opcode_of c = sym (opcode_kept d q x) ∙ ap (λ (t : List ℕ). half_at t 1) (sym f ∙ e) ∙ opcode_kept c p a in
+  found : (r : Result Request Refusal) → Outcome s r → r ≡ lawful_of c (length p)
+  found (Ok r) (q, x, l, f) =
+      let o : opcode_of r.command ≡ opcode_of c = sym (opcode_kept r.command q x) ∙ ap (λ (t : List ℕ). half_at t 1) (sym f ∙ e) ∙ opcode_kept c p a in
       let m : length q ≡ length p = ap (λ (t : List ℕ). byte_at t 3) (sym f ∙ e) in
-      let g : d ≡ c = same_command d c o in
-      cc
-  found (Refused r) g = absurd (none_applies c p a r (subst (Applies r) e g.0))
+      ap (λ (d : Command). lawful_of d r.length) (same_command r.command c o) ∙ ap (lawful_of c) (sym l ∙ m)
+  found (Err r) g = absurd (none_applies c p a r (subst (Applies r) e g.0))
 
 -- one refusal at most is given
 same_given : (s : List ℕ) (q r : Refusal) → Given q s → Given r s → q ≡ r
@@ -320,25 +317,25 @@ same_given s q r g h =
     let y : number_of q ≤ number_of r = ltb-false _ _ f in
     omega arith)))
 
-refused_as : (s : List ℕ) (r : Refusal) → Given r s → (q : Reading) → Outcome s q → q ≡ Refused r
-refused_as s r g (Lawful c n) (p, a, l, e) = absurd (none_applies c p a r (subst (Applies r) e g.0))
-refused_as s r g (Refused q) h = ap Refused (same_given s q r h g)
+refused_as : (s : List ℕ) (r : Refusal) → Given r s → (q : Result Request Refusal) → Outcome s q → q ≡ Err r
+refused_as s r g (Ok m) (p, a, l, e) = absurd (none_applies m.command p a r (subst (Applies r) e g.0))
+refused_as s r g (Err q) h = ap Err (same_given s q r h g)
 
 -- ---- the theorems
 
 -- the packet of a command and of a payload that it allows is read as that command with that length
-pub read_as : (c : Command) (p : List ℕ) → Allowed c p → Bytes (packet_of c p) → read_of (packet_of c p) ≡ Lawful c (length p)
+pub read_as : (c : Command) (p : List ℕ) → Allowed c p → Bytes (packet_of c p) → read_of (packet_of c p) ≡ lawful_of c (length p)
 read_as c p a b = found (packet_of c p) c p a refl (read_of (packet_of c p)) (outcome (packet_of c p) b)
 
 -- and what is read as a command with a length is such a packet
-pub read_from : (s : List ℕ) (c : Command) (n : ℕ) → Bytes s → read_of s ≡ Lawful c n → (p : List ℕ) × Allowed c p × (length p ≡ n) × (s ≡ packet_of c p)
+pub read_from : (s : List ℕ) (c : Command) (n : ℕ) → Bytes s → read_of s ≡ lawful_of c n → (p : List ℕ) × Allowed c p × (length p ≡ n) × (s ≡ packet_of c p)
 read_from s c n b e = subst (Outcome s) e (outcome s b)
 
-read_back : (s : List ℕ) → Bytes s → LawfulPacket s → (c : Command) × (n : ℕ) × (read_of s ≡ Lawful c n)
+read_back : (s : List ℕ) → Bytes s → LawfulPacket s → (c : Command) × (n : ℕ) × (read_of s ≡ lawful_of c n)
 read_back s b (lawful c p a) = (c, length p, read_as c p a b)
 
 -- exactly the lawful packets are taken
-pub taken : (s : List ℕ) → Bytes s → ((c : Command) × (n : ℕ) × (read_of s ≡ Lawful c n)) ↔ LawfulPacket s
+pub taken : (s : List ℕ) → Bytes s → ((c : Command) × (n : ℕ) × (read_of s ≡ lawful_of c n)) ↔ LawfulPacket s
 taken s b =
     (λ r. let f = read_from s r.0 r.1 b r.2 in subst LawfulPacket (sym f.3) (lawful r.0 f.0 f.1), read_back s b)
 
@@ -347,5 +344,5 @@ pub none : (s : List ℕ) → LawfulPacket s → (r : Refusal) → Applies r s �
 none s (lawful c p a) = none_applies c p a
 
 -- exactly the refusal that applies while no lower number does is given
-pub least : (s : List ℕ) → Bytes s → (r : Refusal) → (read_of s ≡ Refused r) ↔ Given r s
+pub least : (s : List ℕ) → Bytes s → (r : Refusal) → (read_of s ≡ Err r) ↔ Given r s
 least s b r = (λ e. subst (Outcome s) e (outcome s b), λ g. refused_as s r g (read_of s) (outcome s b))

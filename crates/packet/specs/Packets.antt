@@ -1,15 +1,12 @@
 -- Paper 01, "Packets" and the refusals of reading: a command is 0x10, opcode low byte first, payload length (1 byte), payload.
-use Rattle.std.specs.Prelude.{ℕ, ◌+◌, Bool, true, List, leb, ltb, eqb, length}
+use Rattle.std.specs.Prelude.{ℕ, ◌+◌, Bool, true, List, Option, Some, None, Result, Ok, Err, leb, ltb, eqb, length}
 use Rattle.basics.specs.Choice.{pick}
 use Rattle.basics.specs.Words.{byte_at, half_at}
 use Rattle.packet.specs.declared.Refusal.{Refusal}
 use Rattle.packet.specs.declared.Refusal.TheVariants.{UnsoundRecord, FlashLength, ReplyShort, PacketShort, NoCommand, LengthDiffers, OpcodeUnlisted, PayloadLength, InnerSize, FillerLength}
 use Rattle.packet.specs.declared.Command.{Command}
 use Rattle.packet.specs.declared.Command.TheVariants.{GetState, FwUpgrade, FwDelete, UpdateAuthKey, LockAuthKey, StoreUsrKey, LoadUsrKey, StartWs, LockUsrKey, UnloadUsrKey, ActivateAntirollback}
-use Rattle.packet.specs.declared.Opcode.{Opcode}
-use Rattle.packet.specs.declared.Opcode.TheVariants.{Listed, Unlisted}
-use Rattle.packet.specs.declared.Reading.{Reading}
-use Rattle.packet.specs.declared.Reading.TheVariants.{Lawful, Refused}
+use Rattle.packet.specs.declared.Request.{Request}
 
 -- the number of each refusal
 abbrev pub number_of : Refusal → ℕ
@@ -39,19 +36,19 @@ opcode_of UnloadUsrKey = 0xFC5E
 opcode_of ActivateAntirollback = 0xFC5F
 
 -- the same table read from the opcode; no other opcode is lawful
-unfoldable pub command_of : ℕ → Opcode
+unfoldable pub command_of : ℕ → Option Command
 command_of opcode =
-    pick (eqb opcode 0xFC52) (Listed GetState)
-    (pick (eqb opcode 0xFC54) (Listed FwUpgrade)
-    (pick (eqb opcode 0xFC55) (Listed FwDelete)
-    (pick (eqb opcode 0xFC56) (Listed UpdateAuthKey)
-    (pick (eqb opcode 0xFC57) (Listed LockAuthKey)
-    (pick (eqb opcode 0xFC58) (Listed StoreUsrKey)
-    (pick (eqb opcode 0xFC59) (Listed LoadUsrKey)
-    (pick (eqb opcode 0xFC5A) (Listed StartWs)
-    (pick (eqb opcode 0xFC5D) (Listed LockUsrKey)
-    (pick (eqb opcode 0xFC5E) (Listed UnloadUsrKey)
-    (pick (eqb opcode 0xFC5F) (Listed ActivateAntirollback) Unlisted))))))))))
+    pick (eqb opcode 0xFC52) (Some GetState)
+    (pick (eqb opcode 0xFC54) (Some FwUpgrade)
+    (pick (eqb opcode 0xFC55) (Some FwDelete)
+    (pick (eqb opcode 0xFC56) (Some UpdateAuthKey)
+    (pick (eqb opcode 0xFC57) (Some LockAuthKey)
+    (pick (eqb opcode 0xFC58) (Some StoreUsrKey)
+    (pick (eqb opcode 0xFC59) (Some LoadUsrKey)
+    (pick (eqb opcode 0xFC5A) (Some StartWs)
+    (pick (eqb opcode 0xFC5D) (Some LockUsrKey)
+    (pick (eqb opcode 0xFC5E) (Some UnloadUsrKey)
+    (pick (eqb opcode 0xFC5F) (Some ActivateAntirollback) None))))))))))
 
 -- the payload bytes that the table allows; a length is one byte, so STORE's 255 is the most there is
 abbrev pub length_allowed : Command → ℕ → Bool
@@ -81,16 +78,24 @@ inner_allowed LockUsrKey s n = true
 inner_allowed UnloadUsrKey s n = true
 inner_allowed ActivateAntirollback s n = true
 
+-- what reading a lawful packet gives, and where there is no such command refusal 7
+abbrev pub lawful_of : Command → ℕ → Result Request Refusal
+lawful_of command n = Ok (record { command = command; length = n })
+
+abbrev pub known : Option Command → Result Command Refusal
+known None = Err OpcodeUnlisted
+known (Some command) = Ok command
+
 -- refusals 7, 8 and 9 of the packet s with n payload bytes
-abbrev pub judged : Opcode → List ℕ → ℕ → Reading
-judged Unlisted s n = Refused OpcodeUnlisted
-judged (Listed command) s n =
-    pick (length_allowed command n) (pick (inner_allowed command s n) (Lawful command n) (Refused InnerSize)) (Refused PayloadLength)
+abbrev pub judged : Option Command → List ℕ → ℕ → Result Request Refusal
+judged None s n = Err OpcodeUnlisted
+judged (Some command) s n =
+    pick (length_allowed command n) (pick (inner_allowed command s n) (lawful_of command n) (Err InnerSize)) (Err PayloadLength)
 
 -- reading a packet: refusals 4, 5 and 6, then those
-unfoldable pub read_of : List ℕ → Reading
+unfoldable pub read_of : List ℕ → Result Request Refusal
 read_of s =
-    pick (ltb (length s) 4) (Refused PacketShort)
+    pick (ltb (length s) 4) (Err PacketShort)
     (pick (eqb (byte_at s 0) 0x10)
-    (pick (eqb (byte_at s 3 + 4) (length s)) (judged (command_of (half_at s 1)) s (byte_at s 3)) (Refused LengthDiffers))
-    (Refused NoCommand))
+    (pick (eqb (byte_at s 3 + 4) (length s)) (judged (command_of (half_at s 1)) s (byte_at s 3)) (Err LengthDiffers))
+    (Err NoCommand))

@@ -2,104 +2,84 @@
 #![tactic(auto)]
 
 ghost use Rattle.std.specs.Prelude.{◌≡◌};
-ghost use Rattle.packet.specs.Packets.{number_of, opcode_of, command_of, length_allowed, inner_allowed, judged, read_of};
+ghost use Rattle.packet.specs.Packets.{number_of, opcode_of, command_of, known, length_allowed, inner_allowed, judged, read_of};
 
-// Why a call is refused, in the order of the numbers 1 to 10.
-#[derive(Clone, Copy)]
+// Why a call is refused, with its number.
+#[derive(Clone, Copy, PartialEq, Eq)]
 pub enum Refusal {
-    UnsoundRecord,
-    FlashLength,
-    ReplyShort,
-    PacketShort,
-    NoCommand,
-    LengthDiffers,
-    OpcodeUnlisted,
-    PayloadLength,
-    InnerSize,
-    FillerLength,
+    UnsoundRecord = 1,
+    FlashLength = 2,
+    ReplyShort = 3,
+    PacketShort = 4,
+    NoCommand = 5,
+    LengthDiffers = 6,
+    OpcodeUnlisted = 7,
+    PayloadLength = 8,
+    InnerSize = 9,
+    FillerLength = 10,
 }
 
-// The lawful commands.
-#[derive(Clone, Copy)]
+// The lawful commands, with their opcodes.
+#[derive(Clone, Copy, PartialEq, Eq)]
 pub enum Command {
-    GetState,
-    FwUpgrade,
-    FwDelete,
-    UpdateAuthKey,
-    LockAuthKey,
-    StoreUsrKey,
-    LoadUsrKey,
-    StartWs,
-    LockUsrKey,
-    UnloadUsrKey,
-    ActivateAntirollback,
+    GetState = 0xFC52,
+    FwUpgrade = 0xFC54,
+    FwDelete = 0xFC55,
+    UpdateAuthKey = 0xFC56,
+    LockAuthKey = 0xFC57,
+    StoreUsrKey = 0xFC58,
+    LoadUsrKey = 0xFC59,
+    StartWs = 0xFC5A,
+    LockUsrKey = 0xFC5D,
+    UnloadUsrKey = 0xFC5E,
+    ActivateAntirollback = 0xFC5F,
 }
 
-// What an opcode stands for.
+// A packet that is taken: a lawful command, and the length of its payload.
 #[derive(Clone, Copy)]
-pub enum Opcode {
-    Listed(Command),
-    Unlisted,
+pub struct Request {
+    pub command: Command,
+    pub length: u8,
 }
 
-// What reading a packet finds: a lawful command with the length of its payload, or why there is none.
-#[derive(Clone, Copy)]
-pub enum Reading {
-    Lawful { command: Command, length: u8 },
-    Refused(Refusal),
-}
+impl From<Refusal> for u8 {
+    ghost from_gives = { λ refusal n. n ≡ number_of refusal };
 
-pub fn number(refusal: Refusal) -> u8
-    ensures { result ≡ number_of refusal }
-{
-    match refusal {
-        Refusal::UnsoundRecord => 1,
-        Refusal::FlashLength => 2,
-        Refusal::ReplyShort => 3,
-        Refusal::PacketShort => 4,
-        Refusal::NoCommand => 5,
-        Refusal::LengthDiffers => 6,
-        Refusal::OpcodeUnlisted => 7,
-        Refusal::PayloadLength => 8,
-        Refusal::InnerSize => 9,
-        Refusal::FillerLength => 10,
+    fn from(refusal: Refusal) -> u8 {
+        refusal as u8
     }
 }
 
-pub fn opcode_of(command: Command) -> u16
-    ensures { result ≡ opcode_of command }
-{
-    match command {
-        Command::GetState => 0xFC52,
-        Command::FwUpgrade => 0xFC54,
-        Command::FwDelete => 0xFC55,
-        Command::UpdateAuthKey => 0xFC56,
-        Command::LockAuthKey => 0xFC57,
-        Command::StoreUsrKey => 0xFC58,
-        Command::LoadUsrKey => 0xFC59,
-        Command::StartWs => 0xFC5A,
-        Command::LockUsrKey => 0xFC5D,
-        Command::UnloadUsrKey => 0xFC5E,
-        Command::ActivateAntirollback => 0xFC5F,
+impl From<Command> for u16 {
+    ghost from_gives = { λ command n. n ≡ opcode_of command };
+
+    fn from(command: Command) -> u16 {
+        command as u16
     }
 }
 
-pub fn command_of(opcode: u16) -> Opcode
-    ensures { result ≡ command_of opcode }
-{
-    match opcode {
-        0xFC52 => Opcode::Listed(Command::GetState),
-        0xFC54 => Opcode::Listed(Command::FwUpgrade),
-        0xFC55 => Opcode::Listed(Command::FwDelete),
-        0xFC56 => Opcode::Listed(Command::UpdateAuthKey),
-        0xFC57 => Opcode::Listed(Command::LockAuthKey),
-        0xFC58 => Opcode::Listed(Command::StoreUsrKey),
-        0xFC59 => Opcode::Listed(Command::LoadUsrKey),
-        0xFC5A => Opcode::Listed(Command::StartWs),
-        0xFC5D => Opcode::Listed(Command::LockUsrKey),
-        0xFC5E => Opcode::Listed(Command::UnloadUsrKey),
-        0xFC5F => Opcode::Listed(Command::ActivateAntirollback),
-        _ => Opcode::Unlisted,
+// An opcode that no command has is refusal 7.
+impl TryFrom<u16> for Command {
+    type Error = Refusal;
+
+    ghost try_from_gives = { λ opcode command. command ≡ known (command_of opcode) };
+
+    #[tactic(auto, unfolding(crate::specs::Packets::command_of, basics::specs::Choice::pick))]
+    fn try_from(opcode: u16) -> Result<Self, Refusal> {
+        match opcode {
+            0xFC52 => Ok(Command::GetState),
+            0xFC54 => Ok(Command::FwUpgrade),
+            0xFC55 => Ok(Command::FwDelete),
+            0xFC56 => Ok(Command::UpdateAuthKey),
+            0xFC57 => Ok(Command::LockAuthKey),
+            0xFC58 => Ok(Command::StoreUsrKey),
+            0xFC59 => Ok(Command::LoadUsrKey),
+            0xFC5A => Ok(Command::StartWs),
+            0xFC5D => Ok(Command::LockUsrKey),
+            0xFC5E => Ok(Command::UnloadUsrKey),
+            0xFC5F => Ok(Command::ActivateAntirollback),
+            _ => Err(Refusal::OpcodeUnlisted),
+        }
     }
 }
 
@@ -125,52 +105,41 @@ fn inner_allowed(command: Command, s: &[u8], n: u8) -> bool
     ensures { result ≡ inner_allowed command s.now n }
 {
     match command {
-        Command::GetState => true,
-        Command::FwUpgrade => true,
-        Command::FwDelete => true,
         Command::UpdateAuthKey => basics::byte_at(s, 4) == 64,
-        Command::LockAuthKey => true,
         Command::StoreUsrKey => basics::byte_at(s, 5) as u16 + 2 == n as u16,
-        Command::LoadUsrKey => true,
-        Command::StartWs => true,
-        Command::LockUsrKey => true,
-        Command::UnloadUsrKey => true,
-        Command::ActivateAntirollback => true,
+        _ => true,
     }
 }
 
 // Refusals 7, 8 and 9 of the packet s with n payload bytes.
-fn judge(opcode: Opcode, s: &[u8], n: u8) -> Reading
-    ensures { result ≡ judged opcode s.now n }
+#[tactic(auto, unfolding(basics::specs::Choice::pick))]
+fn judge(opcode: u16, s: &[u8], n: u8) -> Result<Request, Refusal>
+    ensures { result ≡ judged (command_of opcode) s.now n }
 {
-    match opcode {
-        Opcode::Unlisted => Reading::Refused(Refusal::OpcodeUnlisted),
-        Opcode::Listed(command) => {
-            if !length_allowed(command, n) {
-                return Reading::Refused(Refusal::PayloadLength);
-            }
-            if !inner_allowed(command, s, n) {
-                return Reading::Refused(Refusal::InnerSize);
-            }
-            Reading::Lawful { command, length: n }
-        }
+    let command = Command::try_from(opcode)?;
+    if !length_allowed(command, n) {
+        return Err(Refusal::PayloadLength);
     }
+    if !inner_allowed(command, s, n) {
+        return Err(Refusal::InnerSize);
+    }
+    Ok(Request { command, length: n })
 }
 
 // Reads a packet: the lawful command, or the refusal.
-pub fn read(s: &[u8]) -> Reading
+#[tactic(auto, unfolding(crate::specs::Packets::read_of, basics::specs::Choice::pick))]
+pub fn read(s: &[u8]) -> Result<Request, Refusal>
     ensures { result ≡ read_of s.now }
 {
     if s.len() < 4 {
-        return Reading::Refused(Refusal::PacketShort);
+        return Err(Refusal::PacketShort);
     }
     if s[0] != 0x10 {
-        return Reading::Refused(Refusal::NoCommand);
+        return Err(Refusal::NoCommand);
     }
     let n = s[3];
     if n as usize + 4 != s.len() {
-        return Reading::Refused(Refusal::LengthDiffers);
+        return Err(Refusal::LengthDiffers);
     }
-    let opcode = s[1] as u16 + 256 * (s[2] as u16);
-    judge(command_of(opcode), s, n)
+    judge(u16::from_le_bytes([s[1], s[2]]), s, n)
 }

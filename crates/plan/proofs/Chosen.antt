@@ -26,13 +26,12 @@ module _ (P : Plan) (k m : ℕ) where
   unfolding next
   next_write h e = let z : m ≡ 0 → ⊥ = omega arith in pick_lt _ _ h ∙ pick_ne _ _ z ∙ pick_eq _ _ e
 
-  pub next_cleared : k < steps P → P.moved ≤ k → (m ≡ 0 → ⊥) → next P k m ≡ Record
+  pub next_record : k < steps P → (m ≡ 0 → ⊥) → (k < P.moved → m ≡ 1 → ⊥) → next P k m ≡ Record
   unfolding next
-  next_cleared h l z = pick_ge _ _ l ∙ pick_lt _ _ h ∙ pick_ne _ _ z
-
-  pub next_copied : k < P.moved → (m ≡ 0 → ⊥) → (m ≡ 1 → ⊥) → next P k m ≡ Record
-  unfolding next
-  next_copied h z e = pick_lt _ _ h ∙ pick_ne _ _ z ∙ pick_ne _ _ e
+  next_record h z e = elim (dec_lt k P.moved) [
+    | yes l ↦ (let w : m ≡ 1 → ⊥ = e l in pick_lt _ _ l ∙ pick_ne _ _ z ∙ pick_ne _ _ w)
+    | no l ↦ (let l' : P.moved ≤ k = omega arith in pick_ge _ _ l' ∙ pick_lt _ _ h ∙ pick_ne _ _ z)
+  ]
 
 -- the sector of clearing i, where `image` sectors of the image are cleared first
 module _ (S top : ℕ) (job : Job) (i image : ℕ) (e : image ≡ cleared_image S top job) where
@@ -69,9 +68,9 @@ module _ (S top : ℕ) (job : Job) where
   unfolding plan_of
   steps_are e d = rw (e, d) refl
 
-  pub copy_step : {k : ℕ} → k < blocks S job → k < steps (plan_of S top job)
-  unfolding plan_of
-  copy_step {k} h = more (blocks S job) (cleared_count S top job) h
-    where
-      more : (b c : ℕ) → k < b → k < b + c
-      more b c l = omega arith
+-- what the code needs of them: which sector a clearing erases, to which a step stores, and which store is next
+pub ruleset clearings = (image_at_lem, stack_at)
+
+pub ruleset targets = (copy_at, clear_at, index_low)
+
+pub ruleset choices = (next_last, next_erase, next_write, next_record, steps_are)

@@ -9,5 +9,4 @@ pub mod Padded
 pub mod Laid
 pub mod Done
 pub mod Cleared
-pub mod Bounds
 pub mod Chosen

@@ -1,8 +1,7 @@
-// A job as stores: where the image goes, which sectors are cleared, and which store is next. `size` is the size of a sector, `top` the
-// first sector of FUS.
+// A job as stores: where the image goes, which sectors are cleared, and which store is next.
 #![tactic(auto)]
 
-ghost use Rattle.std.specs.Prelude.{◌≡◌, ◌+◌, ◌-◌, ◌*◌, ◌≤◌, ◌<◌, min};
+ghost use Rattle.std.specs.Prelude.{◌≡◌, ◌<◌, ◌≤◌};
 ghost use Rattle.plan.specs.Placement.{Able, blocks, goal, cleared_image, cleared_count};
 ghost use Rattle.plan.specs.Stores.{steps, clearing, plan_of, next, left};
 ghost use Rattle.plan.specs.Range.{InRange};
@@ -13,6 +12,16 @@ pub struct Job {
     pub p: usize,
     pub size: usize,
     pub boundary: usize,
+}
+
+impl Job {
+    // b: the size in sectors.
+    pub fn blocks(self, size: usize) -> usize
+        requires { (0 < size) × (size ≤ 65536) × (self.size < 4294967296) }
+        ensures { result ≡ blocks size self }
+    {
+        sectors::sectors_for(self.size as u32, size)
+    }
 }
 
 // A store: a sector is erased, or written with the first `count` bytes of another; a sector is recorded; or the last store.
@@ -30,125 +39,117 @@ pub enum Store {
     Last,
 }
 
-// a - b, and 0 where b is larger.
-fn minus(a: usize, b: usize) -> usize
-    ensures { result ≡ a - b }
-{
-    if b < a { a - b } else { 0 }
+// A job on a device whose sectors have `size` bytes and whose FUS begins at the sector `top`. Any job whose numbers are in range is one,
+// also one that can't be carried out.
+#[derive(Clone, Copy)]
+pub struct Placed {
+    pub job: Job,
+    pub size: usize,
+    pub top: usize,
+    ghost in_range: { InRange size top job },
 }
 
-fn least(a: usize, b: usize) -> usize
-    ensures { result ≡ min a b }
-{
-    if a < b { a } else { b }
-}
-
-// b: the size in sectors.
-pub fn blocks(job: Job, size: usize) -> usize
-    requires { (0 < size) × (size ≤ 65536) × (job.size < 4294967296) }
-    ensures { result ≡ blocks size job }
-{
-    sectors::sectors_for(job.size as u32, size)
-}
-
-// q: the job's target.
-fn goal(job: Job, size: usize, top: usize) -> usize
-    requires { InRange size top job }
-    ensures { result ≡ goal size top job }
-{
-    minus(top, blocks(job, size))
-}
-
-fn cleared_image(job: Job, size: usize, top: usize) -> usize
-    requires { InRange size top job }
-    ensures { result ≡ cleared_image size top job }
-{
-    least(blocks(job, size), minus(goal(job, size, top), job.p))
-}
-
-// c: the number of cleared sectors, for any job, also one that can't be carried out.
-pub fn cleared_count(job: Job, size: usize, top: usize) -> usize
-    requires { InRange size top job }
-    ensures { result ≡ cleared_count size top job }
-{
-    cleared_image(job, size, top) + minus(goal(job, size, top), job.boundary)
-}
-
-// The stores still to do, after `recorded` sectors and `made` stores in the next one.
-pub fn left(job: Job, size: usize, top: usize, recorded: usize, made: u8) -> usize
-    requires { InRange size top job }
-    ensures { result ≡ left (plan_of size top job) recorded made }
-{
-    let moved = blocks(job, size);
-    let all = moved + cleared_count(job, size, top);
-    let stores = minus(moved, recorded) + 2 * minus(all, recorded) + 1;
-    minus(stores, made as usize)
-}
-
-// The sector that a clearing erases.
-fn clearing(job: Job, size: usize, top: usize, index: usize) -> usize
-    requires in_range { InRange size top job }
-    requires index_bound { index < cleared_count size top job }
-    ensures { result ≡ clearing size top job index }
-{
-    let image = cleared_image(job, size, top);
-    if index < image {
-        return job.p + index;
+impl Placed {
+    // Its job's size in sectors.
+    pub fn blocks(self) -> usize
+        ensures { result ≡ blocks self.size self.job }
+    {
+        self.job.blocks(self.size)
     }
-    job.boundary + (index - image)
-}
 
-// The sector that a step stores to.
-fn target(job: Job, size: usize, top: usize, step: usize) -> usize
-    requires able { Able size top job }
-    requires in_range { InRange size top job }
-    requires step_bound { step < steps (plan_of size top job) }
-    ensures { result ≡ (plan_of size top job).target step }
-{
-    let b = blocks(job, size);
-    if step < b {
-        return (top - b) + (b - (step + 1));
+    // q: the job's target.
+    fn goal(self) -> usize
+        ensures { result ≡ goal self.size self.top self.job }
+    {
+        self.top.saturating_sub(self.blocks())
     }
-    clearing(job, size, top, step - b)
-}
 
-// The store that a copy makes after its sector is erased.
-fn copying(job: Job, size: usize, top: usize, step: usize) -> Store
-    requires able { Able size top job }
-    requires in_range { InRange size top job }
-    requires step_bound { step < blocks size job }
-    ensures { result ≡ Store.Write ((plan_of size top job).target step) ((plan_of size top job).source step) ((plan_of size top job).kept step) }
-{
-    let place = blocks(job, size) - (step + 1);
-    let target = target(job, size, top, step);
-    let count = least(size, minus(job.size, place * size));
-    Store::Write {
-        target,
-        source: job.p + place,
-        count,
+    fn cleared_image(self) -> usize
+        ensures { result ≡ cleared_image self.size self.top self.job }
+    {
+        let below = self.goal().saturating_sub(self.job.p);
+        self.blocks().min(below)
     }
-}
 
-// The next store, after `recorded` sectors and `made` stores in the next one.
-pub fn next(job: Job, size: usize, top: usize, recorded: usize, made: u8) -> Store
-    requires able { Able size top job }
-    requires in_range { InRange size top job }
-    ensures { result ≡ next (plan_of size top job) recorded made }
-{
-    let moved = blocks(job, size);
-    if moved + cleared_count(job, size, top) <= recorded {
-        return Store::Last;
+    // c: the number of cleared sectors.
+    pub fn cleared_count(self) -> usize
+        ensures { result ≡ cleared_count self.size self.top self.job }
+    {
+        self.cleared_image() + self.goal().saturating_sub(self.job.boundary)
     }
-    if made == 0 {
-        return Store::Erase {
-            target: target(job, size, top, recorded),
-        };
+
+    // The stores still to do, after `recorded` sectors and `made` stores in the next one.
+    // Kept: the two side by side, here and in `next`: `left` and `next` of specs/Stores.antt take them so.
+    #[tactic(auto, unfolding(crate::specs::Stores::left, crate::specs::Stores::plan_of))]
+    pub fn left(self, recorded: usize, made: u8) -> usize
+        ensures { result ≡ left (plan_of self.size self.top self.job) recorded made }
+    {
+        let moved = self.blocks();
+        let all = moved + self.cleared_count();
+        let stores = moved.saturating_sub(recorded) + 2 * all.saturating_sub(recorded) + 1;
+        stores.saturating_sub(made as usize)
     }
-    if moved <= recorded {
-        return Store::Record;
+
+    // The sector that a clearing erases.
+    #[tactic(auto, using(crate::proofs::Chosen::clearings))]
+    fn clearing(self, index: usize) -> usize
+        requires { index < cleared_count self.size self.top self.job }
+        ensures { result ≡ clearing self.size self.top self.job index }
+    {
+        let image = self.cleared_image();
+        if index < image {
+            return self.job.p + index;
+        }
+        self.job.boundary + (index - image)
     }
-    if made == 1 {
-        return copying(job, size, top, recorded);
+
+    // The sector that a step stores to.
+    // Kept: `Able` is a clause of this, of `copying` and of `next`, and not of the type, whose other methods answer for jobs that can't be carried out.
+    #[tactic(auto, using(crate::proofs::Chosen::targets))]
+    fn target(self, step: usize) -> usize
+        requires able { Able self.size self.top self.job }
+        requires step_bound { step < steps (plan_of self.size self.top self.job) }
+        ensures { result ≡ (plan_of self.size self.top self.job).target step }
+    {
+        let b = self.blocks();
+        if step < b {
+            return (self.top - b) + (b - (step + 1));
+        }
+        self.clearing(step - b)
     }
-    Store::Record
+
+    // The store that a copy makes after its sector is erased.
+    #[tactic(auto, using(crate::proofs::Chosen::write_at), unfolding(crate::specs::Stores::plan_of))]
+    fn copying(self, step: usize) -> Store
+        requires able { Able self.size self.top self.job }
+        requires step_bound { step < blocks self.size self.job }
+        ensures { result ≡ Store.Write ((plan_of self.size self.top self.job).target step) ((plan_of self.size self.top self.job).source step) ((plan_of self.size self.top self.job).kept step) }
+    {
+        let place = self.blocks() - (step + 1);
+        let rest = self.job.size.saturating_sub(place * self.size);
+        Store::Write {
+            target: self.target(step),
+            source: self.job.p + place,
+            count: self.size.min(rest),
+        }
+    }
+
+    // The next store, after `recorded` sectors and `made` stores in the next one.
+    #[tactic(auto, using(crate::proofs::Chosen::choices), unfolding(crate::specs::Stores::plan_of))]
+    pub fn next(self, recorded: usize, made: u8) -> Store
+        requires able { Able self.size self.top self.job }
+        ensures { result ≡ next (plan_of self.size self.top self.job) recorded made }
+    {
+        let moved = self.blocks();
+        if moved + self.cleared_count() <= recorded {
+            return Store::Last;
+        }
+        match made {
+            0 => Store::Erase {
+                target: self.target(recorded),
+            },
+            1 if recorded < moved => self.copying(recorded),
+            _ => Store::Record,
+        }
+    }
 }

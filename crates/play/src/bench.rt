@@ -1,127 +1,131 @@
-// What the bench does to the flash by itself: it looks at it, fills it, loads files into it.
-use crate::say;
-use device::Device;
-use image::Found;
-use std::io::Read;
+// The device that a script is played on, and the orders to it.
+use crate::flash::{self, FLASH};
+use crate::replies::{Answer, Reply};
+use device::{Device, Record, fields};
+use script::Order;
+use serial::Sent;
+use std::io::{Cursor, Write};
 use std::rt::Files;
 
-// How many bytes the flash has.
-pub const FLASH: usize = Device::SECTOR_COUNT * Device::SECTOR_SIZE;
+// The most bytes of a packet, and of what is sent for as many bytes on the serial line.
+const PACKET: usize = 260;
 
-// A sector of the flash; past the last one, nothing.
-fn sector(flash: &[u8], t: usize) -> &[u8] {
-    if t < Device::SECTOR_COUNT {
-        let at = t * Device::SECTOR_SIZE;
-        let end = at + Device::SECTOR_SIZE;
-        if end <= flash.len() {
-            return &flash[at..end];
+const SENT: usize = 10 * PACKET;
+
+// The device's record and its flash, and what reads its serial line.
+#[derive(Drop)]
+pub struct Bench {
+    rec: Record,
+    flash: [u8; FLASH],
+    reader: [u8; serial::LENGTH],
+    // what the device sent on the serial line last
+    sent: [u8; SENT],
+}
+
+impl Bench {
+    // A fresh device.
+    pub fn new() -> Bench {
+        let Device { bytes } = Device::fresh();
+        Bench {
+            rec: bytes,
+            flash: [0xFF; FLASH],
+            reader: [0; serial::LENGTH],
+            sent: [0; SENT],
         }
     }
-    &flash[..0]
-}
 
-pub fn dump(rt: &impl Print, flash: &[u8], t: usize) {
-    say::line(rt, sector(flash, t))
-}
-
-// Whether every byte is 0xFF.
-fn is_erased(part: &[u8]) -> bool {
-    for byte in part {
-        if *byte != 0xFF {
-            return false;
+    // Answers a line.
+    pub fn answer(&mut self, rt: &impl Files, line: &[u8]) -> Answer<'_> {
+        match script::read(line)? {
+            Order::Nothing => Ok(Reply::Done),
+            Order::Packet { digits } => self.packet(digits),
+            Order::Serial { digits } => self.serial(digits),
+            Order::Restart => self.restart(),
+            Order::Work { stores } => self.work(stores),
+            Order::Cut { filler, through } => self.cut(filler, through),
+            Order::Load { sector, name } => flash::load(rt, &mut self.flash, sector, name),
+            Order::Dump { sector } => Ok(Reply::Bytes(flash::sector(&self.flash, sector))),
+            Order::Map => Ok(Reply::Map(&self.flash)),
+            Order::Record => Ok(Reply::Bytes(&self.rec)),
+            Order::State => Ok(Reply::State(fields::read_head(&self.rec))),
+            Order::Erase { sector } => self.fill(sector, 0xFF),
+            Order::Fill { sector, byte } => self.fill(sector, byte),
+            Order::Fresh => self.fresh(),
         }
     }
-    true
-}
 
-// The character of a sector: an image is looked for in this one sector.
-fn character(part: &[u8]) -> u8 {
-    if is_erased(part) {
-        return b'.';
+    // A packet to the device.
+    fn packet(&mut self, digits: &[u8]) -> Answer<'_> {
+        let mut room = [0; PACKET];
+        let packet = script::packet_bytes(digits, &mut room);
+        let mut response = [0; 8];
+        let reason = services::handle(&mut self.rec, &mut self.flash, packet, &mut response)?;
+        Ok(Reply::Response { response, reason })
     }
-    if part.len() < 5 {
-        return b'#';
-    }
-    match image::find_image(part, part.len(), 1) {
-        Found::At(_) => b'i',
-        Found::Nowhere => b'#',
-    }
-}
 
-// One character a sector.
-pub fn map(rt: &impl Print, flash: &[u8]) {
-    let mut characters = [b'\n'; Device::SECTOR_COUNT + 1];
-    for t in 0..Device::SECTOR_COUNT {
-        characters[t] = character(sector(flash, t));
-    }
-    say::text(rt, &characters)
-}
-
-// Fills a sector.
-pub fn fill(flash: &mut [u8], t: usize, byte: u8) {
-    if Device::SECTOR_COUNT <= t {
-        return;
-    }
-    let at = t * Device::SECTOR_SIZE;
-    let end = at + Device::SECTOR_SIZE;
-    if flash.len() < end {
-        return;
-    }
-    sectors::fill(&mut flash[at..end], byte);
-}
-
-// Which sectors n bytes stand in.
-fn loaded(rt: &impl Print, n: usize, from: usize, to: usize) {
-    say::text(rt, b"loaded ");
-    say::number(rt, n);
-    say::text(rt, b" bytes in sectors ");
-    say::number(rt, from);
-    say::text(rt, b" to ");
-    say::number(rt, to);
-    say::text(rt, b"\n")
-}
-
-// The bytes of a file go into flash from a sector's first byte on, if they fit.
-fn put(rt: &impl Print, flash: &mut [u8], t: usize, bytes: &[u8]) {
-    if bytes.len() == 0 {
-        return say::text(rt, b"bad file: empty\n");
-    }
-    if t < Device::SECTOR_COUNT {
-        let at = t * Device::SECTOR_SIZE;
-        if at <= flash.len() {
-            if bytes.len() <= flash.len() - at {
-                let end = at + bytes.len();
-                flash[at..end].copy_from_slice(bytes);
-                let last = t + (bytes.len() - 1) / Device::SECTOR_SIZE;
-                return loaded(rt, bytes.len(), t, last);
+    // Bytes on the serial line, one after another: all that the device sends, and why a key was turned down last. (The line refuses none of them:
+    // its reader is sound, and 10 bytes are room for what one byte has sent.)
+    fn serial(&mut self, digits: &[u8]) -> Answer<'_> {
+        let mut room = [0; PACKET];
+        let mut sent = Cursor::new(self.sent.as_mut_slice());
+        let mut last = None;
+        for byte in script::packet_bytes(digits, &mut room) {
+            let mut out = [0; 10];
+            if let Ok(Sent { count, reason }) = serial::byte(
+                &mut self.rec,
+                &mut self.flash,
+                &mut self.reader,
+                *byte,
+                &mut out,
+            ) {
+                let _ = sent.write_all(out.get(..count as usize).unwrap_or(&[]));
+                last = reason.or(last);
             }
         }
+        let end = sent.position() as usize;
+        Ok(Reply::Sent {
+            bytes: self.sent.get(..end).unwrap_or(&[]),
+            reason: last,
+        })
     }
-    say::text(rt, b"bad file: does not fit\n")
-}
 
-fn room() -> [u8; FLASH] {
-    [0; FLASH]
-}
+    fn restart(&mut self) -> Answer<'_> {
+        let mut event = [0; 6];
+        services::restart(&mut self.rec, &mut event)?;
+        Ok(Reply::Event(event))
+    }
 
-// Reads an open file to its end, before a byte of flash is changed.
-fn read(rt: &impl Print, flash: &mut [u8], t: usize, file: &mut impl Read) {
-    let mut bytes = room();
-    match loading::read(file, &mut bytes) {
-        Ok(got) => {
-            if got.more {
-                return say::text(rt, b"bad file: does not fit\n");
+    // The power is cut in the next store.
+    fn cut(&mut self, filler: u8, through: bool) -> Answer<'_> {
+        let filler = [filler; Device::SECTOR_SIZE];
+        let mut event = [0; 6];
+        services::cut(&mut self.rec, &mut self.flash, &filler, through, &mut event)?;
+        Ok(Reply::Event(event))
+    }
+
+    // Up to `stores` stores, while one is left; a job has at least one. (Work is not refused here: the record stays sound, and the flash has its
+    // length.)
+    fn work(&mut self, stores: usize) -> Answer<'_> {
+        let mut left = fields::mode(&self.rec).has_job() as u32;
+        for made in 0..stores {
+            if left == 0 {
+                return Ok(Reply::Made { made, left });
             }
-            put(rt, flash, t, &bytes[..got.n])
+            left = services::work(&mut self.rec, &mut self.flash).unwrap_or(0);
         }
-        Err(_) => say::text(rt, b"bad file: cannot be read\n"),
+        Ok(Reply::Made { made: stores, left })
     }
-}
 
-// Loads the file with this name.
-pub fn load(rt: &(impl Files + Print), flash: &mut [u8], t: usize, name: &[u8]) {
-    match loading::open(rt, name) {
-        Ok(mut file) => read(rt, flash, t, &mut file),
-        Err(_) => say::text(rt, b"bad file: cannot be opened\n"),
+    // The device, the flash and the line as at the start.
+    fn fresh(&mut self) -> Answer<'_> {
+        services::fresh(&mut self.rec)?;
+        self.flash.fill(0xFF);
+        let _ = serial::fresh(&mut self.reader);
+        Ok(Reply::Done)
+    }
+
+    fn fill(&mut self, sector: usize, byte: u8) -> Answer<'_> {
+        flash::fill(&mut self.flash, sector, byte);
+        Ok(Reply::Done)
     }
 }

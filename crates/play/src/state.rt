@@ -1,91 +1,56 @@
 // The device's state, as a line for people.
-use crate::say;
-use device::{Head, Mode, fields, places};
+use device::{Head, Mode};
+use std::fmt;
 
-// A job: the sectors that it has recorded, and the stores made in the next one.
-fn job(rt: &impl Print, recorded: u32, made: u8) {
-    say::text(rt, b", recorded ");
-    say::number(rt, recorded as usize);
-    say::text(rt, b", made ");
-    say::number(rt, made as usize)
-}
+#[derive(Clone, Copy)]
+pub struct State(pub Head);
 
-// Which program runs, or which job.
-fn mode(rt: &impl Print, mode: Mode, made: u8) {
-    match mode {
-        Mode::Stack => say::text(rt, b"stack runs"),
-        Mode::Idle => say::text(rt, b"FUS idle"),
-        Mode::Upgrade {
-            p: _,
-            size: _,
-            version: _,
-            recorded,
-        } => {
-            say::text(rt, b"upgrade");
-            job(rt, recorded, made)
-        }
-        Mode::Delete { recorded } => {
-            say::text(rt, b"delete");
-            job(rt, recorded, made)
+// A value, or `none`.
+#[derive(Clone, Copy)]
+struct OrNone<T>(Option<T>);
+
+impl<T: fmt::Display> fmt::Display for OrNone<T> {
+    fn fmt<W: fmt::Write>(&self, f: &mut fmt::Formatter<W>) -> fmt::Result {
+        match &self.0 {
+            Some(value) => value.fmt(f),
+            None => f.write_str("none"),
         }
     }
 }
 
-// A number that may be missing.
-fn word_or_none(rt: &impl Print, there: bool, n: u32) {
-    if there {
-        say::word(rt, n)
-    } else {
-        say::text(rt, b"none")
+// A number in hex, with so many digits at least.
+#[derive(Clone, Copy)]
+struct Code(u32, usize);
+
+impl fmt::Display for Code {
+    fn fmt<W: fmt::Write>(&self, f: &mut fmt::Formatter<W>) -> fmt::Result {
+        let Code(number, digits) = *self;
+        write!(f, "0x{number:0digits$X}")
     }
 }
 
-// A byte of which 0 means none.
-fn number_or_none(rt: &impl Print, n: u8) {
-    if n == 0 {
-        say::text(rt, b"none")
-    } else {
-        say::number(rt, n as usize)
-    }
-}
-
-fn error(rt: &impl Print, code: u8) {
-    if code == 0 {
-        say::text(rt, b"none")
-    } else {
-        say::text(rt, b"0x");
-        say::hex(rt, &[code])
-    }
-}
-
-fn head(rt: &impl Print, h: Head) {
-    let runs = h.mode;
-    mode(rt, runs, h.made);
-    say::text(rt, b", boundary ");
-    say::number(rt, h.boundary as usize);
-    say::text(rt, b", version ");
-    word_or_none(rt, h.present, h.version);
-    say::text(rt, b", keys ");
-    say::number(rt, h.count as usize);
-    say::text(rt, b", loaded ");
-    number_or_none(rt, h.loaded);
-    say::text(rt, b", error ");
-    error(rt, h.error);
-    say::text(rt, b", floor ");
-    word_or_none(rt, h.rollback, h.floor);
-    say::text(rt, b"\n")
-}
-
-// Is there a job?
-pub fn has_job(rec: &[u8]) -> bool {
-    if rec.len() == places::LENGTH {
-        return fields::has_job(rec);
-    }
-    false
-}
-
-pub fn show(rt: &impl Print, rec: &[u8]) {
-    if rec.len() == places::LENGTH {
-        return head(rt, fields::read_head(rec));
+impl fmt::Display for State {
+    fn fmt<W: fmt::Write>(&self, f: &mut fmt::Formatter<W>) -> fmt::Result {
+        let h = self.0;
+        let made = h.made;
+        match h.mode {
+            Mode::Stack => f.write_str("stack runs")?,
+            Mode::Idle => f.write_str("FUS idle")?,
+            Mode::Upgrade { recorded, .. } => write!(
+                f,
+                "upgrade, recorded {recorded}, made {made}"
+            )?,
+            Mode::Delete { recorded } => write!(f, "delete, recorded {recorded}, made {made}")?,
+        }
+        let boundary = h.boundary;
+        let version = OrNone(h.present.then_some(Code(h.version, 8)));
+        let keys = h.count;
+        let loaded = OrNone((h.loaded != 0).then_some(h.loaded));
+        let error = OrNone((h.error != 0).then_some(Code(u32::from(h.error), 2)));
+        let floor = OrNone(h.rollback.then_some(Code(h.floor, 8)));
+        write!(
+            f,
+            ", boundary {boundary}, version {version}, keys {keys}, loaded {loaded}, error {error}, floor {floor}"
+        )
     }
 }

@@ -27,9 +27,8 @@ use Rattle.decisions.specs.Decisions.{idle, situated, decided}
 use Rattle.device.specs.Whole.{Shaped, look, with_head, apply, carried}
 use Rattle.soundness.specs.Sound.{mode_sound, sound}
 use Rattle.soundness.proofs.Parts.{parts}
-use Rattle.services.specs.declared.Numbers.{Numbers}
+use Rattle.services.specs.Calls.{Numbers, Sensible, checked_for, key_in, step_for, handled}
 use Rattle.device.specs.Modes.{has_job, recorded_in}
-use Rattle.services.specs.Calls.{Sensible, checked_for, key_in, step_for, handled}
 use Rattle.services.proofs.Laws.{boundary_low, erasable}
 use Rattle.promises.specs.Demand.{packet, Accepted, State}
 use Rattle.promises.proofs.Under.{never}

@@ -1,6 +1,7 @@
 -- CALLS IN A ROW. A fine device stays fine: every call keeps soundness, the lengths of the arrays, and words that are words. So it has bytes
 -- of its own, and a call on them leaves the bytes of what the call by value leaves.
 -- Assumes nothing.
+use Rattle.std.specs.Prelude.{Option, Some, None, Result, Err}
 use Prim.Native.Nat.{ℕ, ◌+◌, ◌-◌, ◌*◌, ◌≤◌, ◌<◌}
 use mathlib.Core.Bool.{true}
 use mathlib.Core.Path.{◌≡◌, refl, subst, sym, ap, ◌∙◌}
@@ -16,14 +17,9 @@ use Rattle.packet.specs.declared.Refusal.{Refusal}
 use Rattle.packet.specs.declared.Refusal.TheVariants.{PacketShort, NoCommand, LengthDiffers, OpcodeUnlisted, PayloadLength, InnerSize}
 use Rattle.packet.specs.declared.Command.{Command}
 use Rattle.packet.specs.declared.Command.TheVariants.{GetState, FwUpgrade, FwDelete, UpdateAuthKey, LockAuthKey, StoreUsrKey, LoadUsrKey, StartWs, LockUsrKey, UnloadUsrKey, ActivateAntirollback}
-use Rattle.packet.specs.declared.Opcode.{Opcode}
-use Rattle.packet.specs.declared.Opcode.TheVariants.{Listed, Unlisted}
-use Rattle.packet.specs.declared.Reading.{Reading}
-use Rattle.packet.specs.declared.Reading.TheVariants.{Lawful, Refused}
-use Rattle.packet.specs.Packets.{command_of, length_allowed, inner_allowed, judged as read, read_of}
+use Rattle.packet.specs.declared.Request.{Request}
+use Rattle.packet.specs.Packets.{lawful_of, command_of, length_allowed, inner_allowed, judged as read, read_of}
 use Rattle.answer.specs.declared.Checked.{Checked}
-use Rattle.image.specs.declared.Found.{Found}
-use Rattle.image.specs.declared.Found.TheVariants.{At, Nowhere}
 use Rattle.image.specs.declared.Terms.{Terms}
 use Rattle.image.specs.Images.{find, decided as checks, judged, after_find, checked_of}
 use Rattle.plan.specs.declared.Store.{Store}
@@ -49,8 +45,7 @@ use Rattle.soundness.proofs.Laws.{chosen}
 use Rattle.soundness.proofs.Record.{encode_sound, record_length_lem}
 use Rattle.jobs.specs.Jobs.{committed, progressed, next_store}
 use Rattle.jobs.proofs.Turns.{recorded_few}
-use Rattle.services.specs.declared.Numbers.{Numbers}
-use Rattle.services.specs.Calls.{Sensible, first, terms_of, checked_for, key_in, step_for, handled, restarted, worked, cut_off}
+use Rattle.services.specs.Calls.{Numbers, Sensible, first, terms_of, checked_for, key_in, step_for, handled, restarted, worked, cut_off}
 use Rattle.services.specs.InPlace.{HandlePlaced, RestartPlaced, WorkPlaced, CutPlaced, handle_in_bytes, restart_in_bytes, work_in_bytes, cut_in_bytes, sound_for, fresh_in_place, handled_in_place, restarted_in_place, worked_in_place, cut_in_place}
 use Rattle.services.proofs.Laws.{boundary_low, first_sensible}
 use Rattle.services.proofs.Doings.{doing}
@@ -85,10 +80,10 @@ module _ (n : ℕ) (h : Head) (w : Worded h) (l : Look) where
 
   -- the version of an image that the checks take is a word
   module _ (S : ℕ) (terms : Terms) (key F : List ℕ) (b : Bytes F) where
-    found_keeps : (f : Found) → Keeps (upgrade h (after_find S terms key F f))
+    found_keeps : (f : Option ℕ) → Keeps (upgrade h (after_find S terms key F f))
     unfolding judged checks
-    found_keeps Nowhere = (refl, w)
-    found_keeps (At p) =
+    found_keeps None = (refl, w)
+    found_keeps (Some p) =
         let Q : Checked → Type 0 = λ c. Keeps (upgrade h c) in
         let v = word_of (drop (p * S) F) 12 (drop_bytes (p * S) F b) in
         either Q _ _ _ (either Q _ _ _ (either Q _ _ _ (either Q _ _ _ (either Q _ _ _ (either Q _ _ _ (refl, (w.0, v, w.2)) (refl, w)) (refl, w)) (refl, w)) (refl, w)) (refl, w)) (refl, w)
@@ -166,20 +161,25 @@ module _ (d : Device) (s : Shaped d) where
 
 -- ---- a packet that is read as a new authentication key has 69 bytes, whatever its numbers are
 module _ (s : List ℕ) (n : ℕ) where
-  abbrev Long : Reading → Type 0
-  Long r = r ≡ Lawful UpdateAuthKey n → length s ≡ 69
+  abbrev Long : Result Request Refusal → Type 0
+  Long r = r ≡ lawful_of UpdateAuthKey n → length s ≡ 69
 
-  no : (r : Refusal) → Long (Refused r)
+  no : (r : Refusal) → Long (Err r)
   no r e = let z : ◌≡◌ {A = ℕ} 0 1 = cc in absurd (omega arith)
 
-  by_opcode : eqb (byte_at s 3 + 4) (length s) ≡ true → (o : Opcode) → Long (read o s (byte_at s 3))
-  by_opcode l Unlisted = no OpcodeUnlisted
-  by_opcode l (Listed x) =
+  same_command : (x y : Command) (m : ℕ) → ◌≡◌ {A = Result Request Refusal} (lawful_of x m) (lawful_of y n) → x ≡ y
+  same_command x y m e =
+      let q : ◌≡◌ {A = Request} (record { command = x; length = m }) (record { command = y; length = n }) = cc in
+      ap (λ (r : Request). r.command) q
+
+  by_opcode : eqb (byte_at s 3 + 4) (length s) ≡ true → (o : Option Command) → Long (read o s (byte_at s 3))
+  by_opcode l None = no OpcodeUnlisted
+  by_opcode l (Some x) =
       by_test Long (length_allowed x (byte_at s 3)) _ _
       (λ a.
       either Long (inner_allowed x s (byte_at s 3)) _ _
       (λ e.
-      let c : x ≡ UpdateAuthKey = cc in
+      let c : x ≡ UpdateAuthKey = same_command x UpdateAuthKey (byte_at s 3) e in
       let m = subst (λ (y : Command). length_allowed y (byte_at s 3) ≡ true) c a in
       omega (arith, eqb-true (byte_at s 3 + 4) (length s) l, eqb-true (byte_at s 3) 65 m)) (no InnerSize)) (no PayloadLength)
 
@@ -187,7 +187,7 @@ module _ (s : List ℕ) (n : ℕ) where
   unfolding read_of
   read_long = either Long _ _ _ (no PacketShort) (either Long _ _ _ (by_test Long _ _ _ (λ l. by_opcode l (command_of (half_at s 1))) (no LengthDiffers)) (no NoCommand))
 
-  auth_length : (command : Command) → read_of s ≡ Lawful command n → command ≡ UpdateAuthKey → length (key_in command s) ≡ 64
+  auth_length : (command : Command) → read_of s ≡ lawful_of command n → command ≡ UpdateAuthKey → length (key_in command s) ≡ 64
   unfolding pick
   auth_length command e u = rw (u, length-drop 5 s, read_long (rw u at e))
 

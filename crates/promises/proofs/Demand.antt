@@ -3,7 +3,6 @@
 use Prim.Native.Nat.{ℕ, zero, suc, ◌≤◌, ◌<◌}
 use mathlib.Core.Bool.{Bool, true, false}
 use mathlib.Core.Path.{◌≡◌, refl, sym, ap, ◌∙◌, subst}
-use mathlib.Core.Logic.{◌⊎◌, inl, inr}
 use mathlib.Core.List.{List, [], ◌∷◌, ◌++◌}
 use native.Mathlib.Omega.{arith}
 use lib.ListN.{replicate}
@@ -23,10 +22,9 @@ use Rattle.device.specs.declared.Mode.TheVariants.{Stack, Idle, Upgrade, Delete}
 use Rattle.device.specs.Whole.{lost}
 use Rattle.soundness.specs.Sound.{plan_for, sound}
 use Rattle.soundness.proofs.Keeps.{lost_sound}
-use Rattle.services.specs.declared.Numbers.{Numbers}
+use Rattle.services.specs.Calls.{Numbers, WorkResult, Sensible, worked}
 use Rattle.device.specs.Modes.{has_job, recorded_in, with_recorded}
 use Rattle.jobs.specs.Jobs.{committed, progressed, finished, next_store, Doing}
-use Rattle.services.specs.Calls.{WorkResult, Sensible, worked}
 use Rattle.services.proofs.Doings.{doing}
 use Rattle.promises.specs.Demand.{Event, packet, restart, work, cut, State, called, busy, ran, works_in, NoCut, stores, to_do, Accepted, final, Safely, under, over}
 use Rattle.promises.proofs.Under.{never, job_stays, job_same, recorded_is, progressed_again, finished_progressed, finished_lost, sound_progressed}
@@ -205,11 +203,6 @@ module _ (k : Numbers) (kind : Sensible k) (d₀ : Device) (F₀ : List ℕ) (ac
   left_to o n m F i ended G g =
       let q : to_do k (finished S top d₀) ≡ 0 = unfold pick in rw (ended_idle S top d₀.head.mode d₀.head accepted.job) in
       sym (ap (to_do k) (at_end o n m F i) ∙ q)
-
-  -- at every point the calls reach a state that the plan's invariant allows
-  busy_or_done : (s : State) → Reached s → (busy s ≡ true) ⊎ (s ≡ final k (d₀, F₀))
-  busy_or_done s (midway o n m F i) = inl (at_job o n m F i)
-  busy_or_done s done = inr refl
 
   done_idle : busy (final k (d₀, F₀)) ≡ false
   done_idle = ended_idle S top d₀.head.mode d₀.head accepted.job

@@ -32,9 +32,8 @@ use Rattle.soundness.specs.Sound.{job_of, plan_for, error_sound, progress_sound,
 use Rattle.soundness.proofs.Parts.{Numbers as HeadSays, Keys, Parts, parts, whole}
 use Rattle.soundness.proofs.Keys.{keys_lost}
 use Rattle.soundness.proofs.Keeps.{lost_sound, decided_sound}
-use Rattle.services.specs.declared.Numbers.{Numbers}
+use Rattle.services.specs.Calls.{Numbers, Sensible, terms_of, checked_for, key_in}
 use Rattle.jobs.specs.Jobs.{committed, progressed, finished, next_store, Doing}
-use Rattle.services.specs.Calls.{Sensible, terms_of, checked_for, key_in}
 use Rattle.services.proofs.Laws.{boundary_some, boundary_low}
 use Rattle.services.proofs.Doings.{doing}
 use Rattle.promises.specs.Demand.{Event, packet, restart, work, cut, State, called}

@@ -6,17 +6,18 @@ use mathlib.Core.Path.{◌≡◌, sym, ◌∙◌}
 use mathlib.Core.List.{List, ◌++◌}
 use borrow.Author.Tests.{le-leb}
 use lib.ListN.{length}
+use Rattle.std.specs.Prelude.{Result}
 use Rattle.basics.specs.Choice.{pick}
 use Rattle.basics.specs.Words.{zeros}
-use Rattle.packet.specs.declared.Reading.{Reading}
+use Rattle.packet.specs.declared.Request.{Request}
+use Rattle.packet.specs.declared.Refusal.{Refusal}
 use Rattle.packet.specs.Packets.{read_of}
 use Rattle.reply.specs.Replies.{replied}
 use Rattle.reply.specs.Message.{next_message}
 use Rattle.device.specs.Types.{Device}
-use Rattle.services.specs.declared.Numbers.{Numbers}
-use Rattle.services.specs.Calls.{HandleResult, CutResult, RestartResult, WorkResult, handled, restarted, worked, cut_off}
+use Rattle.services.specs.Calls.{Numbers, HandleResult, CutResult, RestartResult, WorkResult, handled, restarted, worked, cut_off}
 
-pub read_once : (s : List ℕ) (x y : Reading) → x ≡ read_of s → y ≡ read_of s → x ≡ y
+pub read_once : (s : List ℕ) (x y : Result Request Refusal) → x ≡ read_of s → y ≡ read_of s → x ≡ y
 read_once s x y p q = p ∙ sym q
 
 pub message_once : (event response x y : List ℕ) → x ≡ next_message event response → y ≡ next_message event response → x ≡ y

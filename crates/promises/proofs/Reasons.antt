@@ -1,5 +1,6 @@
 -- PAPER 02 §2: beside the reply stands the first of the causes that the paper lists, and no reply tells which it was.
 -- Assumes nothing.
+use Rattle.std.specs.Prelude.{Option, Some, None, Err}
 use Prim.Native.Nat.{ℕ, ◌*◌, ◌≤◌}
 use mathlib.Core.Bool.{Bool, true, false, not, ◌&&◌, ◌||◌}
 use mathlib.Core.Path.{◌≡◌, refl, ap}
@@ -11,16 +12,13 @@ use Rattle.basics.specs.Words.{byte_at}
 use Rattle.packet.specs.declared.Refusal.{Refusal}
 use Rattle.packet.specs.declared.Command.{Command}
 use Rattle.packet.specs.declared.Command.TheVariants.{GetState, FwUpgrade, FwDelete, UpdateAuthKey, LockAuthKey, StoreUsrKey, LoadUsrKey, StartWs, LockUsrKey, UnloadUsrKey, ActivateAntirollback}
-use Rattle.packet.specs.declared.Reading.TheVariants.{Lawful}
-use Rattle.packet.specs.Packets.{read_of}
+use Rattle.packet.specs.Packets.{lawful_of, read_of}
 use Rattle.answer.specs.declared.Failure.{Failure}
 use Rattle.answer.specs.declared.Answer.{Answer}
 use Rattle.answer.specs.declared.Answer.TheVariants.{Failed}
 use Rattle.answer.specs.declared.Checked.{Checked}
 use Rattle.answer.specs.declared.Checked.TheVariants.{Good, Fails, Erases}
 use Rattle.answer.specs.Answers.{reason_of, reason_in}
-use Rattle.image.specs.declared.Found.{Found}
-use Rattle.image.specs.declared.Found.TheVariants.{At, Nowhere}
 use Rattle.image.specs.declared.Header.{Header}
 use Rattle.image.specs.declared.Terms.{Terms}
 use Rattle.image.specs.Images.{find, header_of, header_lawful, room_for, tag_lawful, floor_lawful, body_sum, tag_key_is, decided as seven, judged, after_find, checked_of}
@@ -33,9 +31,7 @@ use Rattle.keys.specs.Keys.{type_lawful, key_lawful, stored_key, store_key, load
 use Rattle.commands.specs.Commands.{is_get_state, stack_running, job_under_way, get_state, upgrade}
 use Rattle.decisions.specs.Decisions.{idle, situated, decided, searches}
 use Rattle.soundness.specs.Sound.{sound}
-use Rattle.services.specs.declared.Numbers.{Numbers}
-use Rattle.services.specs.declared.Verdict.TheVariants.{Refused}
-use Rattle.services.specs.Calls.{HandleResult, terms_of, reply_to, key_in, checked_for, handled}
+use Rattle.services.specs.Calls.{Numbers, HandleResult, terms_of, reply_to, key_in, checked_for, handled}
 use Rattle.services.proofs.Laws.{handled_by}
 use Rattle.promises.specs.Reasons.{Cause, causes_of, causes_in, First, none, here, later}
 use Rattle.promises.proofs.Refusals.{handle_refused_lem}
@@ -150,10 +146,10 @@ module _ (S : ℕ) (terms : Terms) (h : Head) where
       (either (Quiet h) (tag_lawful terms.auth x.tag same) _ _
       (either (Quiet h) (floor_lawful terms.rollback terms.floor x.version) _ _ tt refl) refl) refl) refl) refl) refl
 
-  quiet_found : (key F : List ℕ) (f : Found) → Quiet h (after_find S terms key F f)
+  quiet_found : (key F : List ℕ) (f : Option ℕ) → Quiet h (after_find S terms key F f)
   unfolding judged
-  quiet_found key F Nowhere = refl
-  quiet_found key F (At p) =
+  quiet_found key F None = refl
+  quiet_found key F (Some p) =
       let s = drop (p * S) F in quiet_decided p (header_of s) (body_sum s (header_of s).size) (tag_key_is s key)
 
   quiet_checked : (key F : List ℕ) → Quiet h (checked_of S terms key F)
@@ -162,7 +158,7 @@ module _ (S : ℕ) (terms : Terms) (h : Head) where
 
 module _ (k : Numbers) (d : Device) (F packet R : List ℕ) where
   -- a lawful packet on a sound record and fitting buffers: the reason is the first of the paper's causes that holds, and none else
-  pub reason_first : (command : Command) (n : ℕ) → sound k.size k.top d ≡ true → length F ≡ k.count * k.size → 8 ≤ length R → read_of packet ≡ Lawful command n
+  pub reason_first : (command : Command) (n : ℕ) → sound k.size k.top d ≡ true → length F ≡ k.count * k.size → 8 ≤ length R → read_of packet ≡ lawful_of command n
       → First (causes_in d.head.mode d.head (look d.kinds d.locks (byte_at packet 4)) command (byte_at packet 4) (length (key_in command packet))) (handled k d F packet R).reason
   reason_first command n s e h r =
       rw (handled_by k d F packet R s e h, r)
@@ -170,5 +166,5 @@ module _ (k : Numbers) (d : Device) (F packet R : List ℕ) where
       (either (Quiet d.head) (searches d.head.mode command) _ _ (quiet_checked k.size (terms_of d.head) d.head d.key F) refl))
 
   -- a refused packet has none
-  pub reason_none : Bytes packet → (r : Refusal) → (handled k d F packet R).verdict ≡ Refused r → (handled k d F packet R).reason ≡ 0
+  pub reason_none : Bytes packet → (r : Refusal) → (handled k d F packet R).verdict ≡ Err r → (handled k d F packet R).reason ≡ 0
   reason_none b r e = ap (λ (x : HandleResult). x.reason) (handle_refused_lem k d F packet R b r e).1

@@ -12,19 +12,16 @@ use Rattle.basics.specs.Choice.{pick}
 use Rattle.packet.specs.declared.Refusal.{Refusal}
 use Rattle.packet.specs.declared.Refusal.TheVariants.{UnsoundRecord, FlashLength, ReplyShort, PacketShort, NoCommand, LengthDiffers, OpcodeUnlisted, PayloadLength, InnerSize, FillerLength}
 use Rattle.packet.specs.declared.Command.{Command}
-use Rattle.packet.specs.declared.Reading.{Reading}
-use Rattle.packet.specs.declared.Reading.TheVariants.{Lawful, Refused as Unlawful}
+use Rattle.packet.specs.declared.Request.{Request}
+use Rattle.std.specs.Prelude.{Result, Ok, Err}
 use Rattle.packet.specs.Packets.{number_of, read_of}
 use Rattle.packet.specs.Lawful.{Bytes, Applies, LawfulPacket, Given as GivenOf}
 use Rattle.packet.proofs.Lawful.{taken, none, least}
 use Rattle.device.specs.Types.{Device}
 use Rattle.soundness.specs.Sound.{sound}
-use Rattle.services.specs.declared.Numbers.{Numbers}
-use Rattle.services.specs.declared.Verdict.{Verdict}
-use Rattle.services.specs.declared.Verdict.TheVariants.{Taken, Refused}
+use Rattle.services.specs.Calls.{Numbers, Verdict, granted, HandleResult, CutResult, RestartResult, WorkResult, gated, passed, handle_refused, restart_refused, work_refused, cut_refused, working, lent, answered, by_reading, handled, restarted, worked, cutting, cut_off}
 use Rattle.services.proofs.Gated.{differ, same_refusal}
 use Rattle.device.specs.Modes.{has_job}
-use Rattle.services.specs.Calls.{HandleResult, CutResult, RestartResult, WorkResult, gated, passed, handle_refused, restart_refused, work_refused, cut_refused, working, lent, answered, by_reading, handled, restarted, worked, cutting, cut_off}
 use Rattle.promises.specs.Refusals.{Unsound, Short, OfHandle, Rows, OfRestart, OfWork, OfCut, Given}
 use Rattle.promises.proofs.Under.{never}
 use Rattle.promises.proofs.Still.{either}
@@ -110,9 +107,9 @@ module _ (k : Numbers) (d : Device) (F bytes R : List ℕ) (b : Bytes bytes) whe
     there InnerSize a = a
     there FillerLength a = absurd a
 
-    by_reading_lem : (r : Reading) → read_of bytes ≡ r → Handled (by_reading r k d F bytes R)
-    by_reading_lem (Lawful command n) q = yes command s e h ((taken bytes b).0 (command, n, q))
-    by_reading_lem (Unlawful r) q =
+    by_reading_lem : (r : Result Request Refusal) → read_of bytes ≡ r → Handled (by_reading r k d F bytes R)
+    by_reading_lem (Ok request) q = yes request.command s e h ((taken bytes b).0 (request.command, request.length, q))
+    by_reading_lem (Err r) q =
         let g : GivenOf r bytes = (least bytes b r).0 q in
         no r (there r g.0, lower (number_of r) g.1)
 
@@ -128,22 +125,22 @@ module _ (k : Numbers) (d : Device) (F bytes R : List ℕ) (b : Bytes bytes) whe
       go true s true e true h = by_reading_lem s (eqb-true _ _ e) (leb-true _ _ h) (read_of bytes) refl
 
   -- a refusal is the least number that applies, gives the device back, leaves flash untouched and fills the reply buffer with zeros
-  refused_by_lem : (r : Refusal) (x : HandleResult) → Handled x → x.verdict ≡ Refused r → Given Applying r × (x ≡ handle_refused d F R r)
+  refused_by_lem : (r : Refusal) (x : HandleResult) → Handled x → x.verdict ≡ Err r → Given Applying r × (x ≡ handle_refused d F R r)
   refused_by_lem r x (no q g) e = let f : q ≡ r = cc in (subst (Given Applying) f g, ap (λ (p : Refusal). handle_refused d F R p) f)
   refused_by_lem r x (yes command s l h p) e = let z : ◌≡◌ {A = ℕ} 0 1 = cc in absurd (omega arith)
 
-  pub handle_refused_lem : (r : Refusal) → (handled k d F bytes R).verdict ≡ Refused r → Given Applying r × (handled k d F bytes R ≡ handle_refused d F R r)
+  pub handle_refused_lem : (r : Refusal) → (handled k d F bytes R).verdict ≡ Err r → Given Applying r × (handled k d F bytes R ≡ handle_refused d F R r)
   handle_refused_lem r e = refused_by_lem r _ judged e
 
   -- on a sound record and fitting buffers a packet is taken exactly when lawful
-  taken_by : (x : HandleResult) → Handled x → x.verdict ≡ Taken → (sound k.size k.top d ≡ true) × (length F ≡ k.count * k.size) × (8 ≤ length R) × LawfulPacket bytes
+  taken_by : (x : HandleResult) → Handled x → x.verdict ≡ granted → (sound k.size k.top d ≡ true) × (length F ≡ k.count * k.size) × (8 ≤ length R) × LawfulPacket bytes
   taken_by x (no q g) e = let z : ◌≡◌ {A = ℕ} 0 1 = cc in absurd (omega arith)
   taken_by x (yes command s l h p) e = (s, l, h, p)
 
-  pub handle_taken : (handled k d F bytes R).verdict ≡ Taken → (sound k.size k.top d ≡ true) × (length F ≡ k.count * k.size) × (8 ≤ length R) × LawfulPacket bytes
+  pub handle_taken : (handled k d F bytes R).verdict ≡ granted → (sound k.size k.top d ≡ true) × (length F ≡ k.count * k.size) × (8 ≤ length R) × LawfulPacket bytes
   handle_taken e = taken_by _ judged e
 
-  lawful_taken : (x : HandleResult) → Handled x → sound k.size k.top d ≡ true → length F ≡ k.count * k.size → 8 ≤ length R → LawfulPacket bytes → x.verdict ≡ Taken
+  lawful_taken : (x : HandleResult) → Handled x → sound k.size k.top d ≡ true → length F ≡ k.count * k.size → 8 ≤ length R → LawfulPacket bytes → x.verdict ≡ granted
   lawful_taken x (yes command s' l' h' p') s l h p = refl
   lawful_taken x (no q g) s l h p = absurd (lower s l h 11 (λ r n a. none bytes p r a) q (few q) g.0)
     where
@@ -159,7 +156,7 @@ module _ (k : Numbers) (d : Device) (F bytes R : List ℕ) (b : Bytes bytes) whe
       few InnerSize = omega arith
       few FillerLength = omega arith
 
-  pub handle_lawful : sound k.size k.top d ≡ true → length F ≡ k.count * k.size → 8 ≤ length R → LawfulPacket bytes → (handled k d F bytes R).verdict ≡ Taken
+  pub handle_lawful : sound k.size k.top d ≡ true → length F ≡ k.count * k.size → 8 ≤ length R → LawfulPacket bytes → (handled k d F bytes R).verdict ≡ granted
   handle_lawful = lawful_taken _ judged
 
 -- ---- restart, work and cut
@@ -176,17 +173,17 @@ fourth unsound flash reply filler one two three InnerSize l a = a
 fourth unsound flash reply filler one two three FillerLength l a = omega arith
 
 -- the gate gives the least number whose test fails
-gate_given : (s l f x : Bool) (r : Refusal) → gated s l f x ≡ Refused r → Given (Rows (s ≡ false) (l ≡ false) (f ≡ false) (x ≡ false)) r
+gate_given : (s l f x : Bool) (r : Refusal) → gated s l f x ≡ Err r → Given (Rows (s ≡ false) (l ≡ false) (f ≡ false) (x ≡ false)) r
 unfolding gated pick
 gate_given s l f x r = go s l f x
   where
-    told : (s l f x : Bool) (q : Refusal) → Given (Rows (s ≡ false) (l ≡ false) (f ≡ false) (x ≡ false)) q → Refused q ≡ Refused r → Given (Rows (s ≡ false) (l ≡ false) (f ≡ false) (x ≡ false)) r
+    told : (s l f x : Bool) (q : Refusal) → Given (Rows (s ≡ false) (l ≡ false) (f ≡ false) (x ≡ false)) q → ◌≡◌ {A = Verdict} (Err q) (Err r) → Given (Rows (s ≡ false) (l ≡ false) (f ≡ false) (x ≡ false)) r
     told s l f x q g e = subst (Given (Rows (s ≡ false) (l ≡ false) (f ≡ false) (x ≡ false))) (same_refusal q r e) g
 
     no : true ≡ false → ⊥
     no e = never (sym e)
 
-    go : (s l f x : Bool) → gated s l f x ≡ Refused r → Given (Rows (s ≡ false) (l ≡ false) (f ≡ false) (x ≡ false)) r
+    go : (s l f x : Bool) → gated s l f x ≡ Err r → Given (Rows (s ≡ false) (l ≡ false) (f ≡ false) (x ≡ false)) r
     go false l f x e = told false l f x UnsoundRecord (refl, first _) e
     go true false f x e = told true false f x FlashLength (refl, second _ no) e
     go true true false x e = told true true false x ReplyShort (refl, third _ no no) e
@@ -239,29 +236,29 @@ module _ {a b c d a' b' c' d' : Type 0} (p : Same a a') (q : Same b b') (u : Sam
   given_same r g = (row_to r g.0, λ s l x. g.1 s l (row_from s x))
 
 -- a call that is refused was refused by the gate, and gives back what a refusal gives
-module _ {A : Type 0} (verdict : A → Verdict) (x : A) (back : Refusal → A) (taken : verdict x ≡ Taken) (turned : (q : Refusal) → verdict (back q) ≡ Refused q) where
-  by_gate : (v : Verdict) (r : Refusal) → verdict (passed v x back) ≡ Refused r → (v ≡ Refused r) × (passed v x back ≡ back r)
-  by_gate Taken r e = differ r (sym taken ∙ e)
-  by_gate (Refused q) r e = let f : q ≡ r = same_refusal q r (sym (turned q) ∙ e) in (ap Refused f, ap back f)
+module _ {A : Type 0} (verdict : A → Verdict) (x : A) (back : Refusal → A) (taken : verdict x ≡ granted) (turned : (q : Refusal) → verdict (back q) ≡ Err q) where
+  by_gate : (v : Verdict) (r : Refusal) → verdict (passed v x back) ≡ Err r → (v ≡ Err r) × (passed v x back ≡ back r)
+  by_gate (Ok done) r e = differ r (sym taken ∙ e)
+  by_gate (Err q) r e = let f : q ≡ r = same_refusal q r (sym (turned q) ∙ e) in (ap Err f, ap back f)
 
 module _ (k : Numbers) (d : Device) where
-  pub restart_refused_lem : (R : List ℕ) (r : Refusal) → (restarted k d R).verdict ≡ Refused r → Given (OfRestart k d R) r × (restarted k d R ≡ restart_refused d R r)
+  pub restart_refused_lem : (R : List ℕ) (r : Refusal) → (restarted k d R).verdict ≡ Err r → Given (OfRestart k d R) r × (restarted k d R ≡ restart_refused d R r)
   unfolding restarted
   restart_refused_lem R r e =
       let g = by_gate (λ (x : RestartResult). x.verdict) _ (restart_refused d R) refl (λ q. refl) _ r e in
       (given_same (itself (Unsound k d)) unused (short_so 6 R) unused r (gate_given _ true _ true r g.0), g.1)
 
-  pub work_refused_lem : (F : List ℕ) (r : Refusal) → (worked k d F).verdict ≡ Refused r → Given (OfWork k d F) r × (worked k d F ≡ work_refused d F r)
+  pub work_refused_lem : (F : List ℕ) (r : Refusal) → (worked k d F).verdict ≡ Err r → Given (OfWork k d F) r × (worked k d F ≡ work_refused d F r)
   unfolding worked
   work_refused_lem F r e =
-      let t : (working k d F).verdict ≡ Taken = either (λ (x : WorkResult). x.verdict ≡ Taken) (has_job d.head.mode) _ _ refl refl in
+      let t : (working k d F).verdict ≡ granted = either (λ (x : WorkResult). x.verdict ≡ granted) (has_job d.head.mode) _ _ refl refl in
       let g = by_gate (λ (x : WorkResult). x.verdict) _ (work_refused d F) t (λ q. refl) _ r e in
       (given_same (itself (Unsound k d)) (other_so _ _) unused unused r (gate_given _ _ true true r g.0), g.1)
 
-  pub cut_refused_lem : (F filler : List ℕ) (through : Bool) (R : List ℕ) (r : Refusal) → (cut_off k d F filler through R).verdict ≡ Refused r
+  pub cut_refused_lem : (F filler : List ℕ) (through : Bool) (R : List ℕ) (r : Refusal) → (cut_off k d F filler through R).verdict ≡ Err r
       → Given (OfCut k d F filler R) r × (cut_off k d F filler through R ≡ cut_refused d F R r)
   unfolding cut_off
   cut_refused_lem F filler through R r e =
-      let t : (cutting k d F filler through R).verdict ≡ Taken = either (λ (x : CutResult). x.verdict ≡ Taken) (has_job d.head.mode) _ _ refl refl in
+      let t : (cutting k d F filler through R).verdict ≡ granted = either (λ (x : CutResult). x.verdict ≡ granted) (has_job d.head.mode) _ _ refl refl in
       let g = by_gate (λ (x : CutResult). x.verdict) _ (cut_refused d F R) t (λ q. refl) _ r e in
       (given_same (itself (Unsound k d)) (other_so _ _) (short_so 6 R) (other_so _ _) r (gate_given _ _ _ _ r g.0), g.1)

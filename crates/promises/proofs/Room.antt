@@ -20,8 +20,7 @@ use Rattle.device.specs.Whole.{with_head}
 use Rattle.device.specs.Kind.{sector_size, fus_sector, flash_length, fresh_head, fresh_device}
 use Rattle.decisions.specs.Decisions.{decided as decided_on}
 use Rattle.soundness.specs.Sound.{head_sound, all_below, slots_sound, sound}
-use Rattle.services.specs.declared.Verdict.TheVariants.{Taken}
-use Rattle.services.specs.Calls.{first, gated, handle_result, lent, terms_of, handled}
+use Rattle.services.specs.Calls.{granted, first, gated, handle_result, lent, terms_of, handled}
 use Rattle.promises.specs.Image.{Holds}
 
 module _ {S : ℕ} {terms : Terms} {key F : List ℕ} {p size version : ℕ} (h : Holds S terms key F p size version) where
@@ -50,11 +49,11 @@ module _ {F : List ℕ} {p size version : ℕ} (sized : length F ≡ flash_lengt
   lent_so = eq-eqb _ _ sized
 
   pub fresh_taken : room_for sector_size p size fus_sector ≡ true
-      → handled first fresh_device F ask_upgrade (zeros 8) ≡ handle_result Taken (with_head (with_mode (Upgrade p size version 0) fresh_head) fresh_device) F (reply_upgrade 0x00) 0
+      → handled first fresh_device F ask_upgrade (zeros 8) ≡ handle_result granted (with_head (with_mode (Upgrade p size version 0) fresh_head) fresh_device) F (reply_upgrade 0x00) 0
   unfolding handled gated sound head_sound slots_sound all_below fresh_device zeros read_of command_of pick replied response decided_on
   fresh_taken e = rw (lent_so, taken h e)
 
   pub fresh_no_room : room_for sector_size p size fus_sector ≡ false
-      → handled first fresh_device F ask_upgrade (zeros 8) ≡ handle_result Taken (with_head (with_error 0x04 fresh_head) fresh_device) F (reply_upgrade 0x01) 0
+      → handled first fresh_device F ask_upgrade (zeros 8) ≡ handle_result granted (with_head (with_error 0x04 fresh_head) fresh_device) F (reply_upgrade 0x01) 0
   unfolding handled gated sound head_sound slots_sound all_below fresh_device zeros read_of command_of pick replied response decided_on
   fresh_no_room e = rw (lent_so, no_room h e)

@@ -10,9 +10,9 @@ use lib.ListN.{length}
 use Rattle.basics.specs.Choice.{pick}
 use Rattle.packet.specs.declared.Command.{Command}
 use Rattle.packet.specs.declared.Command.TheVariants.{GetState}
-use Rattle.packet.specs.declared.Reading.{Reading}
-use Rattle.packet.specs.declared.Reading.TheVariants.{Lawful, Refused}
-use Rattle.packet.specs.Packets.{command_of, read_of}
+use Rattle.packet.specs.declared.Request.{Request}
+use Rattle.packet.specs.Packets.{lawful_of, command_of, read_of}
+use Rattle.std.specs.Prelude.{Result, Ok, Err}
 use Rattle.reply.specs.Replies.{response, event, replied}
 use Rattle.answer.specs.declared.Checked.{Checked}
 use Rattle.device.specs.Types.{Step, Look, Device}
@@ -23,11 +23,8 @@ use Rattle.decisions.specs.Decisions.{situated, decided, searches}
 use Rattle.device.specs.Whole.{carried, lost}
 use Rattle.soundness.specs.Sound.{sound}
 use Rattle.packet.specs.declared.Refusal.{Refusal}
-use Rattle.services.specs.declared.Numbers.{Numbers}
-use Rattle.services.specs.declared.Verdict.{Verdict}
-use Rattle.services.specs.declared.Verdict.TheVariants.{Taken, Refused as Turned}
+use Rattle.services.specs.Calls.{Numbers, Verdict, granted, HandleResult, RestartResult, WorkResult, CutResult, gated, passed, lent, key_in, handle_refused, answered, by_reading, handled, restart_result, restart_refused, event_for, restarted, worked_on, working, work_result, work_refused, worked, cut_in, cutting, restarting, cut_refused, cut_off}
 use Rattle.device.specs.Modes.{has_job}
-use Rattle.services.specs.Calls.{HandleResult, RestartResult, WorkResult, CutResult, gated, passed, lent, key_in, handle_refused, answered, by_reading, handled, restart_result, restart_refused, event_for, restarted, worked_on, working, work_result, work_refused, worked, cut_in, cutting, restarting, cut_refused, cut_off}
 use Rattle.services.proofs.Gated.{opens, all_open}
 use Rattle.services.proofs.Laws.{handled_by}
 use Rattle.promises.specs.Demand.{Event, packet, restart, work, cut, State, called}
@@ -43,9 +40,9 @@ pub either : {A : Type 0} (Q : A → Type 0) (t : Bool) (x y : A) → Q x → Q 
 either Q t x y p q = by_test Q t x y (λ e. p) q
 
 -- what holds of a taken call and of every refusal holds of the call
-by_verdict : {A : Type 0} (Q : A → Type 0) (v : Verdict) (x : A) (back : Refusal → A) → (v ≡ Taken → Q x) → ((r : Refusal) → Q (back r)) → Q (passed v x back)
-by_verdict Q Taken x back p q = p refl
-by_verdict Q (Turned r) x back p q = q r
+by_verdict : {A : Type 0} (Q : A → Type 0) (v : Verdict) (x : A) (back : Refusal → A) → (v ≡ granted → Q x) → ((r : Refusal) → Q (back r)) → Q (passed v x back)
+by_verdict Q (Ok done) x back p q = p refl
+by_verdict Q (Err r) x back p q = q r
 
 -- THE LAW: what holds of device and flash before a call, and of what the call leaves where it is taken, holds of what it leaves
 module _ (k : Numbers) (d : Device) (F : List ℕ) (Q : State → Type 0) where
@@ -53,7 +50,7 @@ module _ (k : Numbers) (d : Device) (F : List ℕ) (Q : State → Type 0) where
   job = has_job d.head.mode
 
   abbrev pub Leaves : Event → Type 0
-  Leaves (packet s R) = (command : Command) (n : ℕ) → read_of s ≡ Lawful command n → Q ((answered k d F s R command).device, (answered k d F s R command).flash)
+  Leaves (packet s R) = (command : Command) (n : ℕ) → read_of s ≡ lawful_of command n → Q ((answered k d F s R command).device, (answered k d F s R command).flash)
   Leaves (restart R) = Q (lost d, F)
   Leaves work = job ≡ true → Q ((worked_on k d F).device, (worked_on k d F).flash)
   Leaves (cut x through R) = (job ≡ true → length x ≡ k.size → Q ((cut_in k d F x through R).device, (cut_in k d F x through R).flash)) × Q (lost d, F)
@@ -62,9 +59,9 @@ module _ (k : Numbers) (d : Device) (F : List ℕ) (Q : State → Type 0) where
     abbrev whole : Bool
     whole = sound k.size k.top d
 
-    by_reading_lem : (s R : List ℕ) (r : Reading) → read_of s ≡ r → Leaves (packet s R) → Q ((by_reading r k d F s R).device, (by_reading r k d F s R).flash)
-    by_reading_lem s R (Lawful command n) e t = t command n e
-    by_reading_lem s R (Refused r) e t = same
+    by_reading_lem : (s R : List ℕ) (r : Result Request Refusal) → read_of s ≡ r → Leaves (packet s R) → Q ((by_reading r k d F s R).device, (by_reading r k d F s R).flash)
+    by_reading_lem s R (Ok request) e t = t request.command request.length e
+    by_reading_lem s R (Err r) e t = same
 
     pub by_call : (v : Event) → Leaves v → Q (called k v (d, F))
     unfolding handled restarted worked cut_off
@@ -72,10 +69,10 @@ module _ (k : Numbers) (d : Device) (F : List ℕ) (Q : State → Type 0) where
         by_verdict (λ (r : HandleResult). Q (r.device, r.flash)) (gated whole (lent k F) (leb 8 (length R)) true) (by_reading (read_of s) k d F s R) (handle_refused d F R)
         (λ o. by_reading_lem s R (read_of s) refl t) (λ r. same)
     by_call (restart R) t =
-        by_verdict (λ (r : RestartResult). Q (r.device, F)) (gated whole true (leb 6 (length R)) true) (restart_result Taken (lost d) (event_for d (length R))) (restart_refused d R) (λ o. t) (λ r. same)
+        by_verdict (λ (r : RestartResult). Q (r.device, F)) (gated whole true (leb 6 (length R)) true) (restart_result granted (lost d) (event_for d (length R))) (restart_refused d R) (λ o. t) (λ r. same)
     by_call work t =
         let P : WorkResult → Type 0 = λ r. Q (r.device, r.flash) in
-        by_verdict P (gated whole (lent k F) true true) (working k d F) (work_refused d F) (λ o. by_test P job (worked_on k d F) (work_result Taken d F 0) t same) (λ r. same)
+        by_verdict P (gated whole (lent k F) true true) (working k d F) (work_refused d F) (λ o. by_test P job (worked_on k d F) (work_result granted d F 0) t same) (λ r. same)
     by_call (cut x through R) t =
         let P : CutResult → Type 0 = λ r. Q (r.device, r.flash) in
         let fits : Bool = leb 6 (length R) in

@@ -61,9 +61,6 @@ module _ (S top : ℕ) (e : Device) where
   pub progressed_again : (k m k' m' : ℕ) → progressed S top (progressed S top e (going k m)) (going k' m') ≡ progressed S top e (going k' m')
   progressed_again k m k' m' = rw (again k' k e.head.mode)
 
-  pub lost_progressed : (k m : ℕ) → lost (progressed S top e (going k m)) ≡ progressed S top (lost e) (going k 0)
-  lost_progressed k m = refl
-
   -- the job's end is that of the accepted device
   ends : (k m : ℕ) (mode : Mode) (h : Head) → has_job mode ≡ true
       → lost_head (committed S top (with_recorded k mode) (with_made m (with_mode (with_recorded k mode) h))) ≡ lost_head (committed S top mode h)

@@ -1,9 +1,9 @@
 -- Paper 01, "Cases": every line marked P, in one table. What a line says is tested on the definitions that the calls' contracts cite;
 -- F stands for any flash, since none of these lines looks into it.
-use Rattle.std.specs.Prelude.{ℕ, ◌-◌, Bool, true, false, not, ◌&&◌, List, [], ◌∷◌, ◌++◌, eqb, length, replicate}
+use Rattle.std.specs.Prelude.{ℕ, ◌-◌, Bool, true, false, not, ◌&&◌, List, [], ◌∷◌, ◌++◌, eqb, length, replicate, Result, Ok, Err}
 use Rattle.basics.specs.Words.{zeros}
-use Rattle.packet.specs.declared.Reading.{Reading}
-use Rattle.packet.specs.declared.Reading.TheVariants.{Lawful, Refused}
+use Rattle.packet.specs.declared.Request.{Request}
+use Rattle.packet.specs.declared.Refusal.{Refusal}
 use Rattle.packet.specs.Packets.{number_of, read_of}
 use Rattle.image.specs.Images.{room_for}
 use Rattle.plan.specs.declared.Job.{Job}
@@ -50,9 +50,9 @@ talked F d ((packet, reply) ∷ rest) =
     && same (given F d packet).reply (reply ++ zeros (12 - length reply))
     && talked F (given F d packet).device rest
 
-abbrev pub number_is : Reading → ℕ → Bool
-number_is (Lawful command n) number = false
-number_is (Refused r) number = eqb (number_of r) number
+abbrev pub number_is : Result Request Refusal → ℕ → Bool
+number_is (Ok request) number = false
+number_is (Err r) number = eqb (number_of r) number
 
 abbrev pub agree : Bool → Bool → Bool
 agree true b = b

@@ -11,10 +11,9 @@ use Rattle.plan.specs.Final.{final_flash}
 use Rattle.device.specs.Types.{Device}
 use Rattle.device.specs.Whole.{lost}
 use Rattle.soundness.specs.Sound.{job_of, plan_for, sound}
-use Rattle.services.specs.declared.Numbers.{Numbers}
+use Rattle.services.specs.Calls.{Numbers, handled, restarted, worked, cut_off}
 use Rattle.device.specs.Modes.{has_job, recorded_in}
 use Rattle.jobs.specs.Jobs.{progressed, finished}
-use Rattle.services.specs.Calls.{handled, restarted, worked, cut_off}
 
 -- an event: a call with any arguments. A packet may be lawful, damaged or rubbish, a filler or a reply buffer of any length: what breaks the
 -- rules is a refused call

@@ -1,13 +1,12 @@
 -- A flash that holds an image which only check 3 can turn down, for the lines "taken" and "E 04" of the paper's cases.
-use Rattle.std.specs.Prelude.{ℕ, ◌*◌, true, ◌≡◌, List, eqb, drop}
-use Rattle.image.specs.declared.Found.TheVariants.{At}
+use Rattle.std.specs.Prelude.{Some, ℕ, ◌*◌, true, ◌≡◌, List, eqb, drop}
 use Rattle.image.specs.declared.Terms.{Terms}
 use Rattle.image.specs.Images.{find, header_of, header_lawful, body_sum, tag_key_is, tag_lawful, floor_lawful}
 
 -- the search hits sector p; the image there has this size and version, a lawful header, the right sum, a seal, and what the device's
 -- authentication key and floor ask
 pub record Holds (S : ℕ) (terms : Terms) (key F : List ℕ) (p size version : ℕ) : Type 0 where
-  pub found : find S F terms.boundary ≡ At p
+  pub found : find S F terms.boundary ≡ Some p
   pub size_is : (header_of (drop (p * S) F)).size ≡ size
   pub version_is : (header_of (drop (p * S) F)).version ≡ version
   pub header : header_lawful (header_of (drop (p * S) F)) ≡ true

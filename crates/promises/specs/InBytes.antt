@@ -5,7 +5,7 @@ use Rattle.device.specs.Types.{Device}
 use Rattle.device.specs.Whole.{Shaped}
 use Rattle.device.specs.Layout.{Word, version_of, encode, decode, Bytes}
 use Rattle.soundness.specs.Sound.{sound}
-use Rattle.services.specs.declared.Numbers.{Numbers}
+use Rattle.services.specs.Calls.{Numbers}
 use Rattle.services.specs.InPlace.{handled_in_place, restarted_in_place, worked_in_place, cut_in_place}
 use Rattle.promises.specs.Demand.{Event, packet, restart, work, cut, State}
 

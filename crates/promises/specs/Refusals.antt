@@ -6,7 +6,7 @@ use Rattle.packet.specs.Packets.{number_of}
 use Rattle.packet.specs.Lawful.{Applies}
 use Rattle.device.specs.Types.{Device}
 use Rattle.soundness.specs.Sound.{sound}
-use Rattle.services.specs.declared.Numbers.{Numbers}
+use Rattle.services.specs.Calls.{Numbers}
 
 -- the rows: the device record is unsound; the flash buffer has not its length; the reply buffer is under `least` bytes; the cut's filler
 -- has not a sector's length

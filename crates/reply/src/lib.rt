@@ -9,37 +9,22 @@ ghost use Rattle.reply.specs.Message.{holds, next_message, next_from};
 use packet::Command;
 
 // Fills a buffer with zeros to its end.
+#[tactic(auto, unfolding(basics::specs::Words::zeros))]
 pub fn clear(buffer: &mut [u8])
     ensures { buffer.new ≡ zeros (length buffer.old) }
 {
-    let mut i = 0;
-    while i < buffer.len() {
-        buffer[i] = 0;
-        i += 1;
-    }
+    buffer.fill(0)
 }
 
 // Has the response to this command a payload byte?
 fn has_payload(command: Command) -> bool
     ensures { result ≡ has_payload command }
 {
-    match command {
-        Command::GetState => true,
-        Command::FwUpgrade => false,
-        Command::FwDelete => false,
-        Command::UpdateAuthKey => false,
-        Command::LockAuthKey => false,
-        Command::StoreUsrKey => true,
-        Command::LoadUsrKey => false,
-        Command::StartWs => false,
-        Command::LockUsrKey => false,
-        Command::UnloadUsrKey => false,
-        Command::ActivateAntirollback => false,
-    }
+    matches!(command, Command::GetState | Command::StoreUsrKey)
 }
 
 // Writes a message, and zeros to the buffer's end. A buffer under `least` bytes gets zeros alone.
-fn put(buffer: &mut [u8], least: usize, message: &[u8]) -> bool
+pub fn put(buffer: &mut [u8], least: usize, message: &[u8]) -> bool
     requires { length message.now ≤ least }
     ensures value { result ≡ leb least (length buffer.old) }
     ensures buffer_after { buffer.new ≡ replied least (length buffer.old) message.now }
@@ -57,25 +42,19 @@ pub fn write_response(reply: &mut [u8], command: Command, status: u8, payload: u
     ensures value { result ≡ leb 8 (length reply.old) }
     ensures reply_after { reply.new ≡ replied 8 (length reply.old) (response command status payload) }
 {
-    let opcode = packet::opcode_of(command);
-    let low = (opcode % 256) as u8;
-    let high = (opcode / 256) as u8;
-    // with no payload the eighth byte is the first of the zeros
-    let mut length = 4;
-    let mut last = 0;
+    let [low, high] = u16::from(command).to_le_bytes();
     if has_payload(command) {
-        length = 5;
-        last = payload;
+        put(reply, 8, &[0x11, 0x0E, 5, 0xFF, low, high, status, payload])
+    } else {
+        put(reply, 8, &[0x11, 0x0E, 4, 0xFF, low, high, status])
     }
-    let message = [0x11, 0x0E, length, 0xFF, low, high, status, last];
-    put(reply, 8, &message)
 }
 
 // The event's code.
 fn code_of(stack: bool) -> u8
     ensures { result ≡ code_of stack }
 {
-    if stack { 0 } else { 1 }
+    !stack as u8
 }
 
 // Writes the event that tells which program runs, and zeros to the buffer's end. A buffer under 6 bytes gets zeros alone.
@@ -90,12 +69,10 @@ pub fn write_event(buffer: &mut [u8], stack: bool) -> bool
 
 // Whether the buffer has n bytes or more and begins with the three given.
 fn begins(s: &[u8], n: usize, a: u8, b: u8, c: u8) -> bool
+    requires { 3 ≤ n }
     ensures { result ≡ holds s.now n a b c }
 {
-    (n <= s.len())
-        & (basics::byte_at(s, 0) == a)
-        & (basics::byte_at(s, 1) == b)
-        & (basics::byte_at(s, 2) == c)
+    n <= s.len() && s.starts_with(&[a, b, c])
 }
 
 // The next message of the two reply buffers: the event, else the response, else an empty part of the response buffer.

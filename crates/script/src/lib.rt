@@ -1,30 +1,33 @@
-// One line of a script, read: the order that it is, with its numbers and the places in the line where its bytes stand.
+// One line of a script, read: the order that it is, with its numbers and its bytes.
 #![tactic(auto)]
 
-ghost use Rattle.std.specs.Prelude.{◌≡◌, ◌≤◌, ◌<◌, length, take, drop};
-ghost use Rattle.line.specs.Answer.{Counted};
-ghost use Rattle.script.specs.Words.{same, index_of, first_of, rest_at, rest_of, decimal_in, pair_in, packet_bytes};
-ghost use Rattle.script.specs.Orders.{pairs_in, packet_in, serial_in, work_in, cut_in, load_in, dump_in, erase_in, fill_in, flash_order, word_order, show_order, lone_order, order_of};
+ghost use Rattle.std.specs.Prelude.{◌≡◌, ◌≤◌, ◌<◌, IfOk, length, eqb};
+ghost use Rattle.script.specs.Words.{first_of, rest_at, rest_of, place_in, decimal_in, pair_in, packet_bytes};
+ghost use Rattle.std.specs.List.{position};
+ghost use Rattle.std.specs.Option.{ok_or};
+ghost use Rattle.device.specs.Kind.{sector_count};
+ghost use Rattle.script.specs.Orders.{digits_as, read_as, pairs_in, work_in, cut_in, load_in, fill_in, word_order, lone_order, order_of, BehindWord, InLine};
 
 use device::Device;
+use std::fmt;
 
 // The most bytes of a line that is read.
 pub const LONGEST: usize = 4400;
 
-// What a line asks for.
+// What a line asks for. Bytes that stand in the line are lent from it.
 #[derive(Clone, Copy)]
-pub enum Order {
+pub enum Order<Bytes> {
     // an empty line or a remark
     Nothing,
-    // a packet, whose hex digits stand from this offset to the line's end
-    Packet { hex: usize },
+    // a packet, by its hex digits
+    Packet { digits: Bytes },
     // bytes on the serial line, likewise
-    Serial { hex: usize },
+    Serial { digits: Bytes },
     Restart,
     Work { stores: usize },
     Cut { filler: u8, through: bool },
-    // a file's bytes into flash: its name stands from this offset to the line's end
-    Load { sector: usize, file: usize },
+    // the bytes of the file with this name into flash
+    Load { sector: usize, name: Bytes },
     Dump { sector: usize },
     Map,
     Record,
@@ -32,7 +35,6 @@ pub enum Order {
     Erase { sector: usize },
     Fill { sector: usize, byte: u8 },
     Fresh,
-    Bad(Fault),
 }
 
 // What is wrong with a line.
@@ -61,343 +63,231 @@ pub enum Fault {
     NoFile,
 }
 
-// What a word is in decimal.
-#[derive(Clone, Copy)]
-enum Decimal {
-    Number(usize),
-    NoNumber,
-}
+impl fmt::Display for Fault {
+    ghost use Rattle.std.specs.Prelude.{Some};
+    ghost use Rattle.script.specs.Faults.{fault_text};
 
-// What a word is as a pair of hex digits.
-#[derive(Clone, Copy)]
-enum Pair {
-    Value(u8),
-    NoValue,
-}
+    ghost output = { λ fault. Some (fault_text fault) };
 
-// Whether a word is this one.
-fn is(word: &[u8], text: &[u8]) -> bool
-    ensures { result ≡ same word.now text.now }
-{
-    word == text
-}
-
-// How long the first word is.
-fn word_length(text: &[u8]) -> usize
-    ensures length { result ≡ index_of 32 text.now }
-    ensures within { result ≤ length text.now }
-{
-    for (i, c) in text.iter().enumerate() {
-        if *c == b' ' {
-            return i;
-        }
+    fn fmt<W: fmt::Write>(&self, f: &mut fmt::Formatter<W>) -> fmt::Result {
+        f.write_str(match self {
+            Fault::LineLong => "bad line: over 4400 bytes",
+            Fault::NoOrder => "bad order: unknown",
+            Fault::PacketLong => "bad packet: over 260 bytes",
+            Fault::NoPairs => "bad packet: no hex pairs",
+            Fault::SerialLong => "bad serial: over 260 bytes",
+            Fault::NoSerialPairs => "bad serial: no hex pairs",
+            Fault::NoCount => "bad count: 1 to 4294967295",
+            Fault::NoSector => "bad sector: 0 to 243",
+            Fault::NoByte => "bad byte: two hex digits",
+            Fault::NoOutcome => "bad word: through or not",
+            Fault::NoFile => "bad file: no name",
+        })
     }
-    text.len()
 }
 
-// Where what follows the first word and one blank begins; the end, where there is no blank.
-fn rest_at(text: &[u8]) -> usize
-    ensures place { result ≡ rest_at text.now }
-    ensures within { result ≤ length text.now }
+// The place of the first blank.
+fn blank(text: &[u8]) -> Option<usize>
+    ensures { result ≡ position (λ c. eqb c 32) text.now }
 {
-    let n = word_length(text);
-    if n < text.len() {
-        return n + 1;
+    text.iter().position(|c| *c == b' ')
+}
+
+// The first word, and what follows it and one blank: nothing, where there is no blank.
+#[tactic(auto, unfolding(basics::specs::Choice::pick), using(crate::proofs::Laws::places))]
+fn split(text: &[u8]) -> (&[u8], &[u8])
+    ensures first { result.0.now ≡ first_of text.now }
+    ensures rest { result.1.now ≡ rest_of text.now }
+    ensures place { result.1.ref_ptr ≡ place_in text.entry.ref_ptr (rest_at text.now) }
+{
+    match blank(text) {
+        Some(n) => (&text[..n], &text[n + 1..]),
+        None => (text, &text[text.len()..]),
     }
-    n
-}
-
-// The first word.
-fn first(text: &[u8]) -> &[u8]
-    ensures { result.now ≡ first_of text.now }
-{
-    let n = word_length(text);
-    &text[..n]
-}
-
-// What follows it.
-fn rest(text: &[u8]) -> &[u8]
-    ensures { result.now ≡ rest_of text.now }
-{
-    let at = rest_at(text);
-    &text[at..]
 }
 
 // A number in decimal, below the limit.
-fn number(word: &[u8], limit: usize) -> Decimal
+// Kept: digit by digit: the library's `parse` takes a plus sign, which `decimal_in` refuses.
+#[tactic(auto, unfolding(basics::specs::Choice::pick, crate::specs::Words::decimal_in, crate::specs::Words::are_digits, crate::specs::Words::value_from), using(crate::proofs::Laws::digits))]
+fn number(word: &[u8], limit: usize) -> Option<usize>
     requires { (0 < limit) × (limit ≤ 4294967296) }
     ensures { result ≡ decimal_in limit word.now }
 {
-    if word.len() == 0 {
-        return Decimal::NoNumber;
+    if word.is_empty() {
+        return None;
     }
     let mut value = 0;
-    let mut i = 0;
-    while i < word.len() {
-        let c = word[i];
-        if c < 48 {
-            return Decimal::NoNumber;
+    for c in word {
+        if !c.is_ascii_digit() {
+            return None;
         }
-        if 57 < c {
-            return Decimal::NoNumber;
-        }
-        value = 10 * value + (c - 48) as usize;
+        value = 10 * value + (*c - b'0') as usize;
         if limit <= value {
-            return Decimal::NoNumber;
+            return None;
         }
-        i += 1;
     }
-    Decimal::Number(value)
+    Some(value)
+}
+
+// The number of a sector.
+fn sector(word: &[u8]) -> Result<usize, Fault>
+    ensures { result ≡ ok_or (decimal_in sector_count word.now) Fault.NoSector }
+{
+    number(word, Device::SECTOR_COUNT).ok_or(Fault::NoSector)
 }
 
 // A byte as two hex digits.
-fn hex_byte(word: &[u8]) -> Pair
+#[tactic(auto, unfolding(basics::specs::Choice::pick, crate::specs::Words::pair_in))]
+fn hex_byte(word: &[u8]) -> Option<u8>
     ensures { result ≡ pair_in word.now }
 {
-    if word.len() != 2 {
-        return Pair::NoValue;
-    }
-    let high = line::nibble(word[0]);
-    if 16 <= high {
-        return Pair::NoValue;
-    }
-    let low = line::nibble(word[1]);
-    if 16 <= low {
-        return Pair::NoValue;
-    }
-    Pair::Value(16 * high + low)
+    let [high, low] = word else {
+        return None;
+    };
+    line::pair(*high, *low)
 }
 
-// Puts the bytes that the hex digits from an offset on stand for into out, and answers how many. None where they are no pairs, or too many.
-pub fn packet_bytes(text: &[u8], hex: usize, out: &mut [u8; 260]) -> usize
-    ensures bytes { take result out.new ≡ packet_bytes (drop hex text.now) }
-    ensures fits { Counted result out.new }
+// The bytes that hex digits stand for, written to the start of out. No bytes where the digits are no pairs, or too many.
+// Kept: no bytes and no None: `packet_bytes` can't fail, and its definition has no bytes there.
+#[tactic(auto, unfolding(basics::specs::Choice::pick, crate::specs::Words::packet_bytes))]
+pub fn packet_bytes<'a>(digits: &[u8], out: &'a mut [u8; 260]) -> &'a [u8]
+    ensures { result.now ≡ packet_bytes digits.now }
 {
-    if text.len() < hex {
-        return 0;
-    }
-    let digits = &text[hex..];
     if line::LONGEST < digits.len() {
-        return 0;
+        return &[];
     }
-    if !line::decode(digits, out) {
-        return 0;
-    }
-    digits.len() / 2
+    line::decode(digits, out).unwrap_or(&[])
 }
 
-// An order with bytes as hex pairs, or what is wrong of them.
-fn pairs(words: &[u8], order: Order, long: Fault, unpaired: Fault) -> Order
-    ensures { result ≡ pairs_in words.now order long unpaired }
+// Hex pairs, or what is wrong with them.
+#[tactic(auto, unfolding(basics::specs::Choice::pick, crate::specs::Orders::pairs_in))]
+fn pairs(digits: &[u8], long: Fault, unpaired: Fault) -> Result<&[u8], Fault>
+    ensures digits { digits_as result ≡ pairs_in digits.now long unpaired }
+    ensures place { IfOk result (λ pairs. pairs.ref_ptr ≡ digits.entry.ref_ptr) }
 {
-    if line::LONGEST < words.len() {
-        return Order::Bad(long);
+    if line::LONGEST < digits.len() {
+        return Err(long);
     }
     let mut bytes = [0u8; line::LONGEST / 2];
-    if line::decode(words, &mut bytes) {
-        return order;
+    match line::decode(digits, &mut bytes) {
+        Some(_) => Ok(digits),
+        None => Err(unpaired),
     }
-    Order::Bad(unpaired)
 }
 
-// What follows `packet`, and begins at an offset of the line.
-fn packet(words: &[u8], at: usize) -> Order
-    ensures { result ≡ packet_in words.now at }
-{
-    pairs(
-        words,
-        Order::Packet { hex: at },
-        Fault::PacketLong,
-        Fault::NoPairs,
-    )
-}
-
-// What follows `serial`.
-fn serial(words: &[u8], at: usize) -> Order
-    ensures { result ≡ serial_in words.now at }
-{
-    pairs(
-        words,
-        Order::Serial { hex: at },
-        Fault::SerialLong,
-        Fault::NoSerialPairs,
-    )
-}
-
-fn work(words: &[u8]) -> Order
-    ensures { result ≡ work_in words.now }
+#[tactic(auto, unfolding(basics::specs::Choice::pick))]
+fn work(words: &[u8]) -> Result<Order<&[u8]>, Fault>
+    ensures order { read_as result ≡ work_in words.now }
+    ensures place { BehindWord words.entry.ref_ptr words.now result }
 {
     match number(words, 4294967296) {
-        Decimal::Number(stores) => {
-            if stores == 0 {
-                return Order::Bad(Fault::NoCount);
-            }
-            Order::Work { stores }
+        None | Some(0) => Err(Fault::NoCount),
+        Some(stores) => Ok(Order::Work { stores }),
+    }
+}
+
+#[tactic(auto, unfolding(basics::specs::Choice::pick), using(crate::proofs::Laws::words))]
+fn cut(words: &[u8]) -> Result<Order<&[u8]>, Fault>
+    ensures order { read_as result ≡ cut_in words.now }
+    ensures place { BehindWord words.entry.ref_ptr words.now result }
+{
+    let (byte, outcome) = split(words);
+    let filler = hex_byte(byte).ok_or(Fault::NoByte)?;
+    match outcome {
+        b"through" => Ok(Order::Cut {
+            filler,
+            through: true,
+        }),
+        b"not" => Ok(Order::Cut {
+            filler,
+            through: false,
+        }),
+        _ => Err(Fault::NoOutcome),
+    }
+}
+
+#[tactic(auto, unfolding(basics::specs::Choice::pick))]
+fn load(words: &[u8]) -> Result<Order<&[u8]>, Fault>
+    ensures order { read_as result ≡ load_in words.now }
+    ensures place { BehindWord words.entry.ref_ptr words.now result }
+{
+    let (number, name) = split(words);
+    let sector = sector(number)?;
+    if name.is_empty() {
+        return Err(Fault::NoFile);
+    }
+    Ok(Order::Load { sector, name })
+}
+
+#[tactic(auto, unfolding(basics::specs::Choice::pick))]
+fn fill(words: &[u8]) -> Result<Order<&[u8]>, Fault>
+    ensures order { read_as result ≡ fill_in words.now }
+    ensures place { BehindWord words.entry.ref_ptr words.now result }
+{
+    let (number, byte) = split(words);
+    let sector = sector(number)?;
+    let byte = hex_byte(byte).ok_or(Fault::NoByte)?;
+    Ok(Order::Fill { sector, byte })
+}
+
+// An order of several words, by the first of them.
+#[tactic(auto, unfolding(basics::specs::Choice::pick, crate::specs::Orders::word_order, crate::specs::Orders::flash_order), using(crate::proofs::Laws::words))]
+fn worded<'a>(word: &[u8], words: &'a [u8]) -> Result<Order<&'a [u8]>, Fault>
+    ensures order { read_as result ≡ word_order word.now words.now }
+    ensures place { BehindWord words.entry.ref_ptr words.now result }
+{
+    match word {
+        b"packet" => Ok(Order::Packet {
+            digits: pairs(words, Fault::PacketLong, Fault::NoPairs)?,
+        }),
+        b"serial" => Ok(Order::Serial {
+            digits: pairs(words, Fault::SerialLong, Fault::NoSerialPairs)?,
+        }),
+        b"work" => work(words),
+        b"cut" => cut(words),
+        b"load" => load(words),
+        b"dump" => Ok(Order::Dump {
+            sector: sector(words)?,
+        }),
+        b"erase" => Ok(Order::Erase {
+            sector: sector(words)?,
+        }),
+        b"fill" => fill(words),
+        _ => Err(Fault::NoOrder),
+    }
+}
+
+// An order of one word, or of several.
+#[tactic(auto, unfolding(basics::specs::Choice::pick, crate::specs::Orders::lone_order, crate::specs::Orders::show_order), using(crate::proofs::Laws::words))]
+fn alone(text: &[u8]) -> Result<Order<&[u8]>, Fault>
+    ensures order { read_as result ≡ lone_order text.now }
+    ensures place { InLine text.entry.ref_ptr text.now result }
+{
+    match text {
+        b"restart" => Ok(Order::Restart),
+        b"work" => Ok(Order::Work { stores: 1 }),
+        b"fresh" => Ok(Order::Fresh),
+        b"map" => Ok(Order::Map),
+        b"record" => Ok(Order::Record),
+        b"state" => Ok(Order::State),
+        _ => {
+            let (word, words) = split(text);
+            worded(word, words)
         }
-        Decimal::NoNumber => Order::Bad(Fault::NoCount),
     }
-}
-
-fn cut(words: &[u8]) -> Order
-    ensures { result ≡ cut_in words.now }
-{
-    let word = rest(words);
-    match hex_byte(first(words)) {
-        Pair::Value(filler) => {
-            if is(word, b"through") {
-                return Order::Cut {
-                    filler,
-                    through: true,
-                };
-            }
-            if is(word, b"not") {
-                return Order::Cut {
-                    filler,
-                    through: false,
-                };
-            }
-            Order::Bad(Fault::NoOutcome)
-        }
-        Pair::NoValue => Order::Bad(Fault::NoByte),
-    }
-}
-
-// What follows `load`, and begins at an offset of the line.
-fn load(words: &[u8], at: usize) -> Order
-    requires { (at ≤ 4400) × (length words.now ≤ 4400) }
-    ensures { result ≡ load_in words.now at }
-{
-    let name = rest_at(words);
-    match number(first(words), Device::SECTOR_COUNT) {
-        Decimal::Number(sector) => {
-            if name == words.len() {
-                return Order::Bad(Fault::NoFile);
-            }
-            Order::Load {
-                sector,
-                file: at + name,
-            }
-        }
-        Decimal::NoNumber => Order::Bad(Fault::NoSector),
-    }
-}
-
-fn dump(words: &[u8]) -> Order
-    ensures { result ≡ dump_in words.now }
-{
-    match number(words, Device::SECTOR_COUNT) {
-        Decimal::Number(sector) => Order::Dump { sector },
-        Decimal::NoNumber => Order::Bad(Fault::NoSector),
-    }
-}
-
-fn erase(words: &[u8]) -> Order
-    ensures { result ≡ erase_in words.now }
-{
-    match number(words, Device::SECTOR_COUNT) {
-        Decimal::Number(sector) => Order::Erase { sector },
-        Decimal::NoNumber => Order::Bad(Fault::NoSector),
-    }
-}
-
-fn fill(words: &[u8]) -> Order
-    ensures { result ≡ fill_in words.now }
-{
-    match number(first(words), Device::SECTOR_COUNT) {
-        Decimal::Number(sector) => match hex_byte(rest(words)) {
-            Pair::Value(byte) => Order::Fill { sector, byte },
-            Pair::NoValue => Order::Bad(Fault::NoByte),
-        },
-        Decimal::NoNumber => Order::Bad(Fault::NoSector),
-    }
-}
-
-// An order to the flash, by its first word; what follows that begins at an offset of the line.
-fn on_flash(word: &[u8], words: &[u8], at: usize) -> Order
-    requires { (at ≤ 4400) × (length words.now ≤ 4400) }
-    ensures { result ≡ flash_order word.now words.now at }
-{
-    if is(word, b"load") {
-        return load(words, at);
-    }
-    if is(word, b"dump") {
-        return dump(words);
-    }
-    if is(word, b"erase") {
-        return erase(words);
-    }
-    if is(word, b"fill") {
-        return fill(words);
-    }
-    Order::Bad(Fault::NoOrder)
-}
-
-// An order of several words.
-fn worded(word: &[u8], words: &[u8], at: usize) -> Order
-    requires { (at ≤ 4400) × (length words.now ≤ 4400) }
-    ensures { result ≡ word_order word.now words.now at }
-{
-    if is(word, b"packet") {
-        return packet(words, at);
-    }
-    if is(word, b"serial") {
-        return serial(words, at);
-    }
-    if is(word, b"work") {
-        return work(words);
-    }
-    if is(word, b"cut") {
-        return cut(words);
-    }
-    on_flash(word, words, at)
-}
-
-// An order of one word that shows something.
-fn shown(text: &[u8]) -> Order
-    requires { length text.now ≤ 4400 }
-    ensures { result ≡ show_order text.now }
-{
-    if is(text, b"map") {
-        return Order::Map;
-    }
-    if is(text, b"record") {
-        return Order::Record;
-    }
-    if is(text, b"state") {
-        return Order::State;
-    }
-    worded(first(text), rest(text), rest_at(text))
-}
-
-// An order of one word.
-fn alone(text: &[u8]) -> Order
-    requires { length text.now ≤ 4400 }
-    ensures { result ≡ lone_order text.now }
-{
-    if is(text, b"restart") {
-        return Order::Restart;
-    }
-    if is(text, b"work") {
-        return Order::Work { stores: 1 };
-    }
-    if is(text, b"fresh") {
-        return Order::Fresh;
-    }
-    shown(text)
 }
 
 // The order that a line is.
-pub fn read(text: &[u8]) -> Order
-    ensures { result ≡ order_of text.now }
+#[tactic(auto, unfolding(basics::specs::Choice::pick, crate::specs::Orders::order_of))]
+pub fn read(text: &[u8]) -> Result<Order<&[u8]>, Fault>
+    ensures order { read_as result ≡ order_of text.now }
+    ensures place { InLine text.entry.ref_ptr text.now result }
 {
     if LONGEST < text.len() {
-        return Order::Bad(Fault::LineLong);
+        return Err(Fault::LineLong);
     }
-    if text.len() == 0 {
-        return Order::Nothing;
+    match text {
+        [] | [b'#', ..] => Ok(Order::Nothing),
+        _ => alone(text),
     }
-    if text[0] == b'#' {
-        return Order::Nothing;
-    }
-    alone(text)
 }

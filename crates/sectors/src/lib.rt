@@ -1,57 +1,49 @@
 // Sectors of a lent flash: erase one, copy one, leave a filler in one. `size` is the size of a sector.
+// Kept: flash and `size` side by side, no struct of both: `erase`, `spoil` and `copy` are promised for any lent slice, as C lends it.
 #![tactic(auto)]
 
-ghost use Rattle.std.specs.Prelude.{◌≡◌, ◌+◌, ◌*◌, ◌≤◌, ◌<◌, length, replicate, take, drop};
-ghost use Rattle.basics.specs.Words.{put_at};
+ghost use Rattle.std.specs.Prelude.{◌≡◌, ◌+◌, ◌-◌, ◌*◌, ◌≤◌, ◌<◌, ◌++◌, length, replicate};
 ghost use Rattle.sectors.specs.Sectors.{sector, put_sector, erased, fit, sectors_for};
 
 // How many sectors `bytes` bytes take.
+// Kept: what is asked of a sector's size is a clause, here and in five functions above, and no type: `sectors_for`, `blocks` and `is_sound` are promised for any such number.
 pub fn sectors_for(bytes: u32, size: usize) -> usize
     requires { (0 < size) × (size ≤ 65536) }
     ensures { result ≡ sectors_for size bytes }
 {
-    ((bytes as usize) + (size - 1)) / size
+    (bytes as usize).div_ceil(size)
 }
 
 // Every byte of `part` becomes `value`.
 pub fn fill(part: &mut [u8], value: u8)
     ensures { part.new ≡ replicate (length part.old) value }
 {
-    let mut i = 0;
-    while i < part.len() {
-        part[i] = value;
-        i += 1;
-    }
+    part.fill(value)
 }
 
-// What stands in `part` from index `from` on becomes 0xFF.
-fn blank(part: &mut [u8], from: usize)
-    requires { from ≤ length part.old }
-    ensures { part.new ≡ fit (length part.old) from part.old }
+// `bytes` go to the front of `place`, and 0xFF behind them.
+fn store(place: &mut [u8], bytes: &[u8])
+    requires { length bytes.now ≤ length place.old }
+    ensures { place.new ≡ bytes.now ++ replicate (length place.old - length bytes.now) 0xFF }
 {
-    fill(&mut part[from..], 0xFF);
-}
-
-// `piece` goes to `part` from index `at` on.
-fn put(part: &mut [u8], at: usize, piece: &[u8])
-    requires { at + length piece.now ≤ length part.old }
-    ensures { part.new ≡ put_at part.old at piece.now }
-{
-    let end = at + piece.len();
-    part[at..end].copy_from_slice(piece);
+    let (front, back) = place.split_at_mut(bytes.len());
+    front.copy_from_slice(bytes);
+    fill(back, 0xFF);
 }
 
 // The target sector is lent on, and with it no other sector can be reached.
+#[tactic(auto, unfolding(crate::specs::Sectors::put_sector, crate::specs::Sectors::erased))]
 pub fn erase(flash: &mut [u8], size: usize, target: usize)
     requires { (target + 1) * size ≤ length flash.old }
     ensures { flash.new ≡ put_sector size flash.old target (erased size) }
 {
     let start = target * size;
     let end = start + size;
-    blank(&mut flash[start..end], 0);
+    fill(&mut flash[start..end], 0xFF);
 }
 
 // What a cut store leaves.
+#[tactic(auto, unfolding(crate::specs::Sectors::put_sector))]
 pub fn spoil(flash: &mut [u8], size: usize, target: usize, filler: &[u8])
     requires size_in_bounds { (target + 1) * size ≤ length flash.old }
     requires filler_len { length filler.now ≡ size }
@@ -59,38 +51,26 @@ pub fn spoil(flash: &mut [u8], size: usize, target: usize, filler: &[u8])
 {
     let start = target * size;
     let end = start + size;
-    put(&mut flash[start..end], 0, filler);
+    flash[start..end].copy_from_slice(filler);
 }
 
-// `count` bytes of a sector, at most 64 and from index `at` on, go to the same place of the target.
-fn copy_piece(flash: &mut [u8], size: usize, source: usize, target: usize, at: usize, count: usize)
-    requires size_in_bounds { ((source + 1) * size ≤ length flash.old) × ((target + 1) * size ≤ length flash.old) }
-    requires count_bound { (count ≤ 64) × (at + count ≤ size) }
-    ensures { flash.new ≡ put_sector size flash.old target (put_at (sector size flash.old target) at (take count (drop at (sector size flash.old source)))) }
-{
-    let mut piece = [0u8; 64];
-    let from = source * size + at;
-    let to = from + count;
-    piece[..count].copy_from_slice(&flash[from..to]);
-    let start = target * size;
-    let end = start + size;
-    put(&mut flash[start..end], at, &piece[..count]);
-}
-
-// The first `count` bytes of the source sector, then 0xFF, go to the target sector. A piece of 64 bytes with a literal 64, and the rest
-// as one shorter piece, is what runs as fast as memcpy.
+// The first `count` bytes of the source sector, then 0xFF, go to the target sector. The flash is split where the later of the two
+// begins, so that one can be read while the other is written.
+#[tactic(auto, unfolding(crate::specs::Sectors::put_sector, crate::specs::Sectors::sector, crate::specs::Sectors::fit))]
 pub fn copy(flash: &mut [u8], size: usize, source: usize, target: usize, count: usize)
     requires size_in_bounds { ((source + 1) * size ≤ length flash.old) × ((target + 1) * size ≤ length flash.old) }
     requires count_le_size { (count ≤ size) × (source ≡ target → ⊥) }
     ensures { flash.new ≡ put_sector size flash.old target (fit size count (sector size flash.old source)) }
 {
-    let mut at = 0;
-    while 64 <= count - at {
-        copy_piece(flash, size, source, target, at, 64);
-        at += 64;
+    let from = source * size;
+    let to = target * size;
+    if source < target {
+        let (front, back) = flash.split_at_mut(to);
+        let end = from + count;
+        store(&mut back[..size], &front[from..end]);
+    } else {
+        let (front, back) = flash.split_at_mut(from);
+        let end = to + size;
+        store(&mut front[to..end], &back[..count]);
     }
-    copy_piece(flash, size, source, target, at, count - at);
-    let start = target * size;
-    let end = start + size;
-    blank(&mut flash[start..end], count);
 }

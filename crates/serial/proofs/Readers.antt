@@ -16,7 +16,7 @@ use Rattle.basics.proofs.Words.{length_zeros}
 use Rattle.packet.specs.declared.Command.{Command}
 use Rattle.packet.specs.Packets.{opcode_of}
 use Rattle.serial.specs.declared.Fate.TheVariants.{More, Right, Whole, Wrong}
-use Rattle.serial.specs.Line.{size_in, data_in, packet_in, is_open, opening_fate, address_fate, data_fate, judged}
+use Rattle.serial.specs.Line.{size_in, data_in, packet_in, is_open, opening_fate, data_fate, judged}
 use Rattle.serial.specs.InPlace.{reader_bytes, received_in, all_zero, is_reader, Filled}
 
 -- bytes that are all zero
@@ -127,10 +127,6 @@ module _ (s : List ℕ) (c : Command) where
       (λ _ b. by_pick _ _ _ _ b (λ _ q. more_whole c q)
       (λ _ q. by_pick _ _ _ _ q (λ _ p. right_whole c p) (λ _ p. wrong_whole c p))))
 
-  pub address_end : address_fate s ≡ Whole c → 8 ≤ length s
-  unfolding address_fate
-  address_end e = by_pick _ _ _ _ e (λ _ q. more_whole c q) (λ t _. ltb-false _ _ t)
-
   pub data_end : data_fate s ≡ Whole c → 12 + size_in s ≤ length s
   unfolding data_fate
   data_end e =
@@ -183,9 +179,6 @@ packet_made s c few e n q =
 
 -- the same over the reader's bytes as they are
 module _ (r : List ℕ) (f : Filled r) where
-  pub filled_length : length r ≡ 78
-  filled_length = ap length f.same ∙ reader_length_lem (received_in r) f.few
-
   pub filled_count : byte_at r 0 ≡ length (received_in r)
   unfolding reader_bytes
   filled_count = ap (λ (l : List ℕ). byte_at l 0) f.same

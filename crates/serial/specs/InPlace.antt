@@ -1,11 +1,13 @@
 -- Paper 02 §5 for the C test host: the reader as bytes, and a byte on the line with all its buffers.
-use Rattle.std.specs.Prelude.{ℕ, ◌+◌, ◌-◌, ◌≤◌, Bool, true, false, ◌&&◌, ◌≡◌, List, [], ◌∷◌, ◌++◌, leb, eqb, length, take, drop}
+use Rattle.std.specs.Prelude.{ℕ, ◌+◌, ◌-◌, ◌≤◌, Bool, true, false, ◌&&◌, ◌≡◌, List, [], ◌∷◌, ◌++◌, Option, Result, Ok, Err, leb, eqb, length, take, drop}
 use Rattle.basics.specs.Choice.{pick}
 use Rattle.basics.specs.Words.{byte_at, zeros}
 use Rattle.reply.specs.Replies.{replied}
-use Rattle.services.specs.declared.Numbers.{Numbers}
-use Rattle.serial.specs.declared.Heard.{Heard}
-use Rattle.serial.specs.declared.Heard.TheVariants.{Taken, OutShort, NoReader}
+use Rattle.answer.specs.declared.Reason.{Reason}
+use Rattle.answer.specs.Answers.{told}
+use Rattle.services.specs.Calls.{Numbers}
+use Rattle.serial.specs.declared.Unheard.{Unheard}
+use Rattle.serial.specs.declared.Unheard.TheVariants.{OutShort, NoReader}
 use Rattle.serial.specs.declared.Sent.{Sent}
 use Rattle.serial.specs.Line.{is_open}
 use Rattle.serial.specs.Steps.{Step, stepped}
@@ -36,23 +38,28 @@ pub record Filled (r : List ℕ) : Type 0 where
   pub same : r ≡ reader_bytes (received_in r)
   pub few : length (received_in r) ≤ 77
 
--- what is sent, in ten bytes with zeros behind it
-abbrev pub sent_of : List ℕ → ℕ → Sent
-sent_of message reason =
-    record { bytes = message ++ zeros (10 - length message); count = length message; reason = reason }
+-- was the call taken? It is, or it is refused for one of two reasons
+abbrev pub Heard : Type 0
+Heard = Result (Unit {0}) Unheard
 
--- a step on a reader's bytes
-pub record Told : Type 0 where
-  pub bytes : List ℕ
-  pub flash : List ℕ
-  pub reader : List ℕ
-  pub sent : Sent
+abbrev pub taken : Heard
+taken = Ok tt
 
-abbrev pub told : List ℕ → List ℕ → List ℕ → Sent → Told
-told l F r sent = record { bytes = l; flash = F; reader = r; sent = sent }
+-- a call's answer; how many bytes are sent, and the number of the reason beside them: 0 and 0 of a call that is refused
+abbrev pub heard_of : Result Sent Unheard → Heard
+heard_of (Ok sent) = taken
+heard_of (Err unheard) = Err unheard
 
-abbrev pub told_by : Step → Told
-told_by x = told x.bytes x.flash (reader_bytes x.received) (sent_of x.message x.reason)
+abbrev pub sent_told : Result Sent Unheard → ℕ
+sent_told (Ok sent) = sent.count
+sent_told (Err unheard) = 0
+
+abbrev pub reason_told : Result Sent Unheard → ℕ
+reason_told (Ok sent) = told sent.reason
+reason_told (Err unheard) = 0
+
+abbrev pub sending : List ℕ → Option Reason → Sent
+sending message reason = record { count = length message; reason = reason }
 
 -- all that a call leaves behind: its answer, the record's bytes, the flash, the reader's bytes, the buffer for what is sent, how many bytes
 -- of it are sent, and the reason
@@ -71,11 +78,11 @@ placed answer l F r out sent reason =
 
 abbrev pub placed_by : Step → List ℕ → Placed
 placed_by x out =
-    placed Taken x.bytes x.flash (reader_bytes x.received) (replied 10 (length out) x.message) (length x.message) x.reason
+    placed taken x.bytes x.flash (reader_bytes x.received) (replied 10 (length out) x.message) (length x.message) x.reason
 
 -- a refused call changes nothing and has nothing to send
-abbrev pub refused_by : Heard → List ℕ → List ℕ → List ℕ → List ℕ → Placed
-refused_by answer l F r out = placed answer l F r (zeros (length out)) 0 0
+abbrev pub refused_by : Unheard → List ℕ → List ℕ → List ℕ → List ℕ → Placed
+refused_by unheard l F r out = placed (Err unheard) l F r (zeros (length out)) 0 0
 
 unfoldable pub stepped_in_place : Numbers → (l F r : List ℕ) → ℕ → List ℕ → Placed
 stepped_in_place k l F r b out =
@@ -92,4 +99,4 @@ abbrev pub fresh_placed : Heard → List ℕ → FreshPlaced
 fresh_placed answer r = record { answer = answer; reader = r }
 
 unfoldable pub fresh_in_place : List ℕ → FreshPlaced
-fresh_in_place r = pick (eqb (length r) reader_length) (fresh_placed Taken (reader_bytes [])) (fresh_placed NoReader r)
+fresh_in_place r = pick (eqb (length r) reader_length) (fresh_placed taken (reader_bytes [])) (fresh_placed (Err NoReader) r)

@@ -1,12 +1,10 @@
 -- Paper 02 §5 and source document 000 section 7.1: a command on the serial line, by its bytes. Sizes and opcodes stand high byte first.
-use Rattle.std.specs.Prelude.{ℕ, ◌+◌, ◌-◌, ◌*◌, Bool, true, false, not, ◌&&◌, ◌||◌, List, [], ◌∷◌, leb, ltb, eqb, length, take, drop}
+use Rattle.std.specs.Prelude.{Option, Some, None, ℕ, ◌+◌, ◌-◌, ◌*◌, Bool, true, false, not, ◌&&◌, ◌||◌, List, [], ◌∷◌, leb, ltb, eqb, length, take, drop}
 use Rattle.std.specs.Int.Bits.{bit_xor}
 use Rattle.basics.specs.Choice.{pick}
 use Rattle.basics.specs.Words.{byte_at}
 use Rattle.packet.specs.declared.Command.{Command}
 use Rattle.packet.specs.declared.Command.TheVariants.{GetState, FwUpgrade, FwDelete, UpdateAuthKey, LockAuthKey, StoreUsrKey, LoadUsrKey, StartWs, LockUsrKey, UnloadUsrKey, ActivateAntirollback}
-use Rattle.packet.specs.declared.Opcode.{Opcode}
-use Rattle.packet.specs.declared.Opcode.TheVariants.{Listed, Unlisted}
 use Rattle.packet.specs.Lawful.{packet_of}
 use Rattle.serial.specs.declared.Fate.{Fate}
 use Rattle.serial.specs.declared.Fate.TheVariants.{More, Right, Whole, Wrong}
@@ -29,23 +27,23 @@ abbrev pub is_write : List ℕ → Bool
 is_write s = eqb (byte_at s 0) 0x51
 
 -- THE OPCODE: the line's opcodes of each pair, which are not the packets' low bytes
-unfoldable pub line_command : Bool → ℕ → Opcode
+unfoldable pub line_command : Bool → ℕ → Option Command
 line_command write opcode =
-    pick (not write) (pick (eqb opcode 0x54) (Listed GetState) Unlisted)
-    (pick (eqb opcode 0x52) (Listed FwDelete)
-    (pick (eqb opcode 0x53) (Listed FwUpgrade)
-    (pick (eqb opcode 0x56) (Listed UpdateAuthKey)
-    (pick (eqb opcode 0x57) (Listed LockAuthKey)
-    (pick (eqb opcode 0x58) (Listed StoreUsrKey)
-    (pick (eqb opcode 0x59) (Listed LoadUsrKey)
-    (pick (eqb opcode 0x5A) (Listed StartWs) Unlisted)))))))
+    pick (not write) (pick (eqb opcode 0x54) (Some GetState) None)
+    (pick (eqb opcode 0x52) (Some FwDelete)
+    (pick (eqb opcode 0x53) (Some FwUpgrade)
+    (pick (eqb opcode 0x56) (Some UpdateAuthKey)
+    (pick (eqb opcode 0x57) (Some LockAuthKey)
+    (pick (eqb opcode 0x58) (Some StoreUsrKey)
+    (pick (eqb opcode 0x59) (Some LoadUsrKey)
+    (pick (eqb opcode 0x5A) (Some StartWs) None)))))))
 
-abbrev pub command_in : List ℕ → Opcode
+abbrev pub command_in : List ℕ → Option Command
 command_in s = line_command (is_write s) (number_at s 2)
 
-abbrev pub is_listed : Opcode → Bool
-is_listed (Listed command) = true
-is_listed Unlisted = false
+abbrev pub is_listed : Option Command → Bool
+is_listed (Some command) = true
+is_listed None = false
 
 -- its check is the complement of each byte, in the same order
 abbrev pub opcode_right : List ℕ → Bool
@@ -63,19 +61,19 @@ address_checked s = eqb (byte_at s 8) (bit_xor (byte_at s 6) (byte_at s 7))
 abbrev pub size_in : List ℕ → ℕ
 size_in s = number_at s 9
 
-abbrev pub size_allowed : Opcode → ℕ → Bool
-size_allowed (Listed GetState) n = false
-size_allowed (Listed FwUpgrade) n = eqb n 0
-size_allowed (Listed FwDelete) n = eqb n 0
-size_allowed (Listed UpdateAuthKey) n = eqb n 65
-size_allowed (Listed LockAuthKey) n = eqb n 0
-size_allowed (Listed StoreUsrKey) n = leb 2 n && leb n 46
-size_allowed (Listed LoadUsrKey) n = eqb n 1
-size_allowed (Listed StartWs) n = eqb n 0
-size_allowed (Listed LockUsrKey) n = false
-size_allowed (Listed UnloadUsrKey) n = false
-size_allowed (Listed ActivateAntirollback) n = false
-size_allowed Unlisted n = false
+abbrev pub size_allowed : Option Command → ℕ → Bool
+size_allowed (Some GetState) n = false
+size_allowed (Some FwUpgrade) n = eqb n 0
+size_allowed (Some FwDelete) n = eqb n 0
+size_allowed (Some UpdateAuthKey) n = eqb n 65
+size_allowed (Some LockAuthKey) n = eqb n 0
+size_allowed (Some StoreUsrKey) n = leb 2 n && leb n 46
+size_allowed (Some LoadUsrKey) n = eqb n 1
+size_allowed (Some StartWs) n = eqb n 0
+size_allowed (Some LockUsrKey) n = false
+size_allowed (Some UnloadUsrKey) n = false
+size_allowed (Some ActivateAntirollback) n = false
+size_allowed None n = false
 
 abbrev pub size_right : List ℕ → Bool
 size_right s = size_allowed (command_in s) (size_in s)
@@ -92,9 +90,9 @@ data_checked s = eqb (byte_at s (11 + size_in s)) (xor_of (take (2 + size_in s) 
 
 -- THE BYTES RECEIVED, the newest among them: a phase is tested after its last byte, and no byte but that brings an answer. Right means ACK,
 -- Wrong means NACK; a size that is right brings nothing
-abbrev pub whole_if : Opcode → Fate
-whole_if (Listed command) = Whole command
-whole_if Unlisted = Wrong
+abbrev pub whole_if : Option Command → Fate
+whole_if (Some command) = Whole command
+whole_if None = Wrong
 
 unfoldable pub opening_fate : List ℕ → Fate
 opening_fate s =

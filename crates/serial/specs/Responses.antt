@@ -1,13 +1,12 @@
 -- Paper 02 §5: what the line answers to a whole command, behind the ACK of its last packet.
-use Rattle.std.specs.Prelude.{ℕ, Bool, List, [], ◌∷◌, eqb}
+use Rattle.std.specs.Prelude.{ℕ, Bool, List, [], ◌∷◌, Ok, Err, eqb}
 use Rattle.basics.specs.Choice.{pick}
 use Rattle.basics.specs.Words.{byte_at}
 use Rattle.packet.specs.declared.Command.{Command}
 use Rattle.packet.specs.Packets.{opcode_of}
 use Rattle.device.specs.declared.Head.{Head}
 use Rattle.device.specs.Modes.{stack_runs, has_job}
-use Rattle.services.specs.declared.Verdict.{Verdict}
-use Rattle.services.specs.declared.Verdict.TheVariants.{Taken, Refused}
+use Rattle.services.specs.Calls.{Verdict}
 use Rattle.serial.specs.declared.Peek.{Peek}
 use Rattle.serial.specs.Line.{ack, nack}
 
@@ -36,5 +35,5 @@ response command status payload next =
 
 -- by handle's verdict and reply, and the device after it: a refusal is a NACK in place of the response
 abbrev pub answer_to : Verdict → Command → List ℕ → Head → List ℕ
-answer_to Taken command reply h = response command (byte_at reply 6) (byte_at reply 7) (peek h)
-answer_to (Refused refusal) command reply h = nack ∷ []
+answer_to (Ok done) command reply h = response command (byte_at reply 6) (byte_at reply 7) (peek h)
+answer_to (Err refusal) command reply h = nack ∷ []

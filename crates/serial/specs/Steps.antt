@@ -3,7 +3,7 @@ use Rattle.std.specs.Prelude.{ℕ, List, [], ◌∷◌, ◌++◌}
 use Rattle.basics.specs.Words.{zeros}
 use Rattle.packet.specs.declared.Command.{Command}
 use Rattle.device.specs.Layout.{head_in}
-use Rattle.services.specs.declared.Numbers.{Numbers}
+use Rattle.services.specs.Calls.{Numbers}
 use Rattle.services.specs.InPlace.{HandlePlaced, handled_in_place}
 use Rattle.serial.specs.declared.Fate.{Fate}
 use Rattle.serial.specs.declared.Fate.TheVariants.{More, Right, Whole, Wrong}

@@ -13,9 +13,9 @@ use Rattle.packet.specs.declared.Command.{Command}
 use Rattle.packet.specs.declared.Command.TheVariants.{GetState}
 use Rattle.packet.specs.declared.Refusal.{Refusal}
 use Rattle.packet.specs.declared.Refusal.TheVariants.{UnsoundRecord}
-use Rattle.packet.specs.declared.Reading.{Reading}
-use Rattle.packet.specs.declared.Reading.TheVariants.{Lawful, Refused as Unlawful}
+use Rattle.packet.specs.declared.Request.{Request}
 use Rattle.packet.specs.Packets.{read_of}
+use Rattle.std.specs.Prelude.{Result, Ok, Err}
 use Rattle.answer.specs.declared.Answer.TheVariants.{State}
 use Rattle.answer.specs.declared.Checked.{Checked}
 use Rattle.device.specs.declared.Head.{Head}
@@ -26,10 +26,7 @@ use Rattle.device.specs.Layout.{decode, encode, Bytes, head_in}
 use Rattle.soundness.specs.Sound.{sound}
 use Rattle.commands.specs.Commands.{stack_running, job_under_way}
 use Rattle.decisions.specs.Decisions.{decided}
-use Rattle.services.specs.declared.Numbers.{Numbers}
-use Rattle.services.specs.declared.Verdict.{Verdict}
-use Rattle.services.specs.declared.Verdict.TheVariants.{Taken, Refused}
-use Rattle.services.specs.Calls.{HandleResult, lent, gated, passed, by_reading, handle_refused, handled}
+use Rattle.services.specs.Calls.{Numbers, Verdict, HandleResult, lent, gated, passed, by_reading, handle_refused, handled}
 use Rattle.services.specs.InPlace.{handle_placed, handle_in_bytes, sound_for, handled_in_place}
 use Rattle.services.proofs.Gated.{differ}
 use Rattle.services.proofs.Outcomes.{unchanged}
@@ -44,29 +41,29 @@ use Rattle.serial_promises.proofs.Streams.{first_of}
 -- a refused packet leaves device and flash
 module _ (k : Numbers) (d : Device) (F p R : List ℕ) (r : Refusal) where
   abbrev Left : HandleResult → Type 0
-  Left x = x.verdict ≡ Refused r → (x.device ≡ d) × (x.flash ≡ F)
+  Left x = x.verdict ≡ Err r → (x.device ≡ d) × (x.flash ≡ F)
 
-  read_left : (q : Reading) → Left (by_reading q k d F p R)
-  read_left (Lawful c n) e = differ r e
-  read_left (Unlawful u) e = (refl, refl)
+  read_left : (q : Result Request Refusal) → Left (by_reading q k d F p R)
+  read_left (Ok request) e = differ r e
+  read_left (Err u) e = (refl, refl)
 
   gate_left : (v : Verdict) → Left (passed v (by_reading (read_of p) k d F p R) (handle_refused d F R))
-  gate_left Taken e = read_left (read_of p) e
-  gate_left (Refused u) e = (refl, refl)
+  gate_left (Ok done) e = read_left (read_of p) e
+  gate_left (Err u) e = (refl, refl)
 
   refused_left : Left (handled k d F p R)
   unfolding handled
   refused_left e = gate_left (gated (sound k.size k.top d) (lent k F) (leb 8 (length R)) true) e
 
-pub refused_still : (k : Numbers) (l F p R : List ℕ) (r : Refusal) → Bytes l → (handled_in_place k l F p R).verdict ≡ Refused r
+pub refused_still : (k : Numbers) (l F p R : List ℕ) (r : Refusal) → Bytes l → (handled_in_place k l F p R).verdict ≡ Err r
     → ((handled_in_place k l F p R).bytes ≡ l) × ((handled_in_place k l F p R).flash ≡ F)
 unfolding handled_in_place pick
 refused_still k l F p R r b e = by (sound_for k l) refl e
   where
     by : (t : Bool) → sound_for k l ≡ t
-        → (pick t (handle_in_bytes (handled k (decode l) F p R)) (handle_placed (Refused UnsoundRecord) l F (zeros (length R)) 0)).verdict ≡ Refused r
-        → ((pick t (handle_in_bytes (handled k (decode l) F p R)) (handle_placed (Refused UnsoundRecord) l F (zeros (length R)) 0)).bytes ≡ l)
-        × ((pick t (handle_in_bytes (handled k (decode l) F p R)) (handle_placed (Refused UnsoundRecord) l F (zeros (length R)) 0)).flash ≡ F)
+        → (pick t (handle_in_bytes (handled k (decode l) F p R)) (handle_placed (Err UnsoundRecord) l F (zeros (length R)) 0)).verdict ≡ Err r
+        → ((pick t (handle_in_bytes (handled k (decode l) F p R)) (handle_placed (Err UnsoundRecord) l F (zeros (length R)) 0)).bytes ≡ l)
+        × ((pick t (handle_in_bytes (handled k (decode l) F p R)) (handle_placed (Err UnsoundRecord) l F (zeros (length R)) 0)).flash ≡ F)
     by true s q = let x = refused_left k (decode l) F p R r q in (ap encode x.0 ∙ unchanged k l s b, x.1)
     by false s q = (refl, refl)
 
@@ -80,9 +77,9 @@ response_first : (c : Command) (status payload : ℕ) (next : Peek) → first_of
 unfolding response
 response_first c status payload next = pick_first _ _ _ refl (pick_first _ _ _ refl (pick_first _ _ _ refl refl))
 
-nack_refused : (v : Verdict) (c : Command) (R : List ℕ) (h : Head) → answer_to v c R h ≡ nack ∷ [] → (r : Refusal) × (v ≡ Refused r)
-nack_refused Taken c R h e = absurd (omega (arith, response_first c (byte_at R 6) (byte_at R 7) (peek h), ap first_of e))
-nack_refused (Refused r) c R h e = (r, refl)
+nack_refused : (v : Verdict) (c : Command) (R : List ℕ) (h : Head) → answer_to v c R h ≡ nack ∷ [] → (r : Refusal) × (v ≡ Err r)
+nack_refused (Ok done) c R h e = absurd (omega (arith, response_first c (byte_at R 6) (byte_at R 7) (peek h), ap first_of e))
+nack_refused (Err r) c R h e = (r, refl)
 
 -- the two bytes of such an answer come from a whole command
 fate_turned : (f : Fate) (k : Numbers) (s l F : List ℕ) → Bytes l → (by_fate f k s l F).message ≡ ack ∷ nack ∷ []

@@ -1,4 +1,5 @@
 -- (e) ONLY WELL-FORMED COMMANDS reach handle from a new reader. Assumes nothing.
+use Rattle.std.specs.Prelude.{Option, Some, None}
 use Prim.Native.Nat.{ℕ, suc, ◌+◌, ◌-◌, ◌*◌, ◌<◌, ◌≤◌}
 use mathlib.Core.Path.{◌≡◌, refl, ap, sym, subst, ◌∙◌}
 use mathlib.Core.Bool.{Bool, true, false, ◌&&◌}
@@ -13,8 +14,6 @@ use Rattle.basics.specs.Choice.{pick, and_left, and_right, or_either}
 use Rattle.basics.specs.Words.{byte_at}
 use Rattle.packet.specs.declared.Command.{Command}
 use Rattle.packet.specs.declared.Command.TheVariants.{GetState, FwUpgrade, FwDelete, UpdateAuthKey, LockAuthKey, StoreUsrKey, LoadUsrKey, StartWs}
-use Rattle.packet.specs.declared.Opcode.{Opcode}
-use Rattle.packet.specs.declared.Opcode.TheVariants.{Listed, Unlisted}
 use Rattle.serial.specs.declared.Fate.TheVariants.{More, Right, Whole, Wrong}
 use Rattle.serial.specs.Line.{pair_right, opcode_right, address_checked, data_checked, is_write, is_listed, judged, opening_fate, address_fate, data_fate, line_command, size_in, size_allowed, command_in, data_in, whole_if, xor_of}
 use Rattle.serial.proofs.Readers.{by_pick, more_whole, right_whole, wrong_whole, opening_never}
@@ -56,29 +55,29 @@ unfolding pick
 kept_more true e = refl
 kept_more false e = e
 
-never_kept : (o : Opcode) → kept (whole_if o) ≡ true → ⊥
-never_kept (Listed c) e = let z : ◌≡◌ {A = ℕ} 0 1 = cc in omega arith
-never_kept Unlisted e = let z : ◌≡◌ {A = ℕ} 0 1 = cc in omega arith
+never_kept : (o : Option Command) → kept (whole_if o) ≡ true → ⊥
+never_kept (Some c) e = let z : ◌≡◌ {A = ℕ} 0 1 = cc in omega arith
+never_kept None e = let z : ◌≡◌ {A = ℕ} 0 1 = cc in omega arith
 
-pub kept_address : (t w : Bool) (o : Opcode) → kept (pick t (pick w Right (whole_if o)) Wrong) ≡ true → (t ≡ true) × (w ≡ true)
+pub kept_address : (t w : Bool) (o : Option Command) → kept (pick t (pick w Right (whole_if o)) Wrong) ≡ true → (t ≡ true) × (w ≡ true)
 unfolding pick
 kept_address true true o e = (refl, refl)
 kept_address true false o e = absurd (never_kept o e)
 kept_address false w o e = absurd (let z : ◌≡◌ {A = ℕ} 0 1 = cc in omega arith)
 
-whole_listed : (o : Opcode) (c : Command) → whole_if o ≡ Whole c → o ≡ Listed c
-whole_listed (Listed d) c e = ap Listed (let q : d ≡ c = cc in q)
-whole_listed Unlisted c e = wrong_whole c e
+whole_listed : (o : Option Command) (c : Command) → whole_if o ≡ Whole c → o ≡ Some c
+whole_listed (Some d) c e = ap Some (let q : d ≡ c = cc in q)
+whole_listed None c e = wrong_whole c e
 
 pub true_not_false : {P : Type 0} (t : Bool) → t ≡ true → t ≡ false → P
 true_not_false t p q = absurd (let z : ◌≡◌ {A = ℕ} 0 1 = cc in omega arith)
 
 -- the opcode of a read, and of a write with its size
-read_opcode_lem : (opcode : ℕ) (c : Command) → line_command false opcode ≡ Listed c → (opcode ≡ 0x54) × (c ≡ GetState)
+read_opcode_lem : (opcode : ℕ) (c : Command) → line_command false opcode ≡ Some c → (opcode ≡ 0x54) × (c ≡ GetState)
 unfolding line_command pick
 read_opcode_lem opcode c e = by (eqb opcode 0x54) refl e
   where
-    by : (t : Bool) → eqb opcode 0x54 ≡ t → pick t (Listed GetState) Unlisted ≡ Listed c → (opcode ≡ 0x54) × (c ≡ GetState)
+    by : (t : Bool) → eqb opcode 0x54 ≡ t → pick t (Some GetState) None ≡ Some c → (opcode ≡ 0x54) × (c ≡ GetState)
     by true q h = (eqb-true opcode 0x54 q, (let z : c ≡ GetState = cc in z))
     by false q h = absurd (let z : ◌≡◌ {A = ℕ} 0 1 = cc in omega arith)
 
@@ -106,7 +105,7 @@ module _ (a b d e f g h i j : ℕ) (rest : List ℕ) (c : Command) (r : Reaches 
   unfolding judged address_fate pick
   address = eqb-true _ _ (kept_more _ (goes_on [] _ c r 8 (omega arith) (omega arith)))
 
-whole_address : (t w : Bool) (o : Opcode) (c : Command) → pick t (pick w Right (whole_if o)) Wrong ≡ Whole c
+whole_address : (t w : Bool) (o : Option Command) (c : Command) → pick t (pick w Right (whole_if o)) Wrong ≡ Whole c
     → (t ≡ true) × (w ≡ false) × (whole_if o ≡ Whole c)
 unfolding pick
 whole_address true true o c e = right_whole c e
@@ -122,7 +121,7 @@ read_only a b d e f g h i j c r =
     let o : Opened a b d e f g = opened a b d e f g h i j [] c r in
     let z : 256 * h + i ≡ 0 = address a b d e f g h i j [] c r in
     let w = whole_address (address_checked s) (is_write s) (command_in s) c (ends_whole [] s c r) in
-    let listed : line_command false (256 * d + e) ≡ Listed c = rw w.1 at (whole_listed (command_in s) c w.2) in
+    let listed : line_command false (256 * d + e) ≡ Some c = rw w.1 at (whole_listed (command_in s) c w.2) in
     let k = read_opcode_lem (256 * d + e) c listed in
     let ec : c ≡ GetState = k.1 in
     let ab : (a ≡ 0x50) × (b ≡ 0xAF) =
@@ -148,7 +147,7 @@ pub record Fits (c : Command) (opcode n : ℕ) : Type 0 where
   pub small : n ≤ 65
   pub low : opcode < 256
 
-fits : {c : Command} {opcode : ℕ} {least most : ℕ} (n : ℕ) → Written c opcode least most → size_allowed (Listed c) n ≡ true → Fits c opcode n
+fits : {c : Command} {opcode : ℕ} {least most : ℕ} (n : ℕ) → Written c opcode least most → size_allowed (Some c) n ≡ true → Fits c opcode n
 fits n delete e = let q : n ≡ 0 = eqb-true n 0 e in record { least = 0; most = 0; written = delete; lo = omega arith; hi = omega arith; small = omega arith; low = omega arith }
 fits n upgrade e = let q : n ≡ 0 = eqb-true n 0 e in record { least = 0; most = 0; written = upgrade; lo = omega arith; hi = omega arith; small = omega arith; low = omega arith }
 fits n update e = let q : n ≡ 65 = eqb-true n 65 e in record { least = 65; most = 65; written = update; lo = omega arith; hi = omega arith; small = omega arith; low = omega arith }
@@ -161,14 +160,14 @@ fits n load e = let q : n ≡ 1 = eqb-true n 1 e in record { least = 1; most = 1
 fits n start e = let q : n ≡ 0 = eqb-true n 0 e in record { least = 0; most = 0; written = start; lo = omega arith; hi = omega arith; small = omega arith; low = omega arith }
 
 -- the line's opcode of a command is in the table
-named : (c x : Command) (opcode at n least most : ℕ) → eqb opcode at ≡ true → Listed x ≡ Listed c → Written x at least most
-    → size_allowed (Listed c) n ≡ true → Fits c opcode n
+named : (c x : Command) (opcode at n least most : ℕ) → eqb opcode at ≡ true → Some x ≡ Some c → Written x at least most
+    → size_allowed (Some c) n ≡ true → Fits c opcode n
 named c x opcode at n least most q e w s =
     let same : x ≡ c = cc in
     let op : opcode ≡ at = eqb-true opcode at q in
     rw (op, ← same) (fits n w (rw same s))
 
-write_opcode : (opcode n : ℕ) (c : Command) → line_command true opcode ≡ Listed c → size_allowed (Listed c) n ≡ true → Fits c opcode n
+write_opcode : (opcode n : ℕ) (c : Command) → line_command true opcode ≡ Some c → size_allowed (Some c) n ≡ true → Fits c opcode n
 unfolding line_command
 write_opcode opcode n c e s =
     by_pick _ _ _ _ e (λ t _. true_not_false false t refl)
@@ -180,7 +179,7 @@ write_opcode opcode n c e s =
     (λ _ h. by_pick _ _ _ _ h (λ t q. named c LoadUsrKey opcode 0x59 n 1 1 t q load s)
     (λ _ i. by_pick _ _ _ _ i (λ t q. named c StartWs opcode 0x5A n 0 0 t q start s) (λ _ q. unlisted q))))))))
   where
-    unlisted : Unlisted ≡ Listed c → Fits c opcode n
+    unlisted : None ≡ Some c → Fits c opcode n
     unlisted q = absurd (let z : ◌≡◌ {A = ℕ} 0 1 = cc in omega arith)
 
 -- the fate from the data's size on
@@ -243,8 +242,8 @@ write_only a b d e f g h i j m n t c some r =
     let nine = kept_address (eqb j (bit_xor h i)) (eqb a 0x51) (line_command (eqb a 0x51) (256 * d + e)) (goes_on [] s c r 9 (omega arith) (omega arith)) in
     let size : size_allowed (line_command (eqb a 0x51) (256 * d + e)) z ≡ true = kept_more _ (goes_on [] s c r 11 (omega arith) (omega arith)) in
     let x : Ended s c = ended s c (sym (late s (omega arith)) ∙ ends_whole [] s c r) in
-    let named : line_command true (256 * d + e) ≡ Listed c = rw nine.1 at (whole_listed (command_in s) c x.command) in
-    let allowed : size_allowed (Listed c) z ≡ true = rw (nine.1, named) at size in
+    let named : line_command true (256 * d + e) ≡ Some c = rw nine.1 at (whole_listed (command_in s) c x.command) in
+    let allowed : size_allowed (Some c) z ≡ true = rw (nine.1, named) at size in
     let k : Fits c (256 * d + e) z = write_opcode (256 * d + e) z c named allowed in
     let len : length t ≡ z + 1 = omega (arith, exact s c r (omega arith)) in
     let much : length p ≡ z = length-take-le z t (omega arith) in

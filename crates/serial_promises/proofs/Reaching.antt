@@ -1,4 +1,5 @@
 -- (e) A WELL-FORMED COMMAND reaches handle from a new reader, with its packet; (b) so it does whatever came before. Assumes nothing.
+use Rattle.std.specs.Prelude.{Some}
 use Prim.Native.Nat.{ℕ, suc, ◌+◌, ◌-◌, ◌≤◌}
 use mathlib.Core.Path.{◌≡◌, refl, ap, sym, ◌∙◌}
 use mathlib.Core.Bool.{true, false}
@@ -13,11 +14,10 @@ use Rattle.basics.specs.Words.{byte_at, zeros}
 use Rattle.packet.specs.declared.Command.{Command}
 use Rattle.packet.specs.declared.Command.TheVariants.{GetState}
 use Rattle.packet.specs.Lawful.{packet_of}
-use Rattle.services.specs.declared.Numbers.{Numbers}
+use Rattle.services.specs.Calls.{Numbers}
 use Rattle.services.specs.InPlace.{handled_in_place}
 use Rattle.serial.specs.declared.Fate.{Fate}
 use Rattle.serial.specs.declared.Fate.TheVariants.{More, Right, Whole, Wrong}
-use Rattle.packet.specs.declared.Opcode.TheVariants.{Listed}
 use Rattle.serial.specs.Line.{judged, opening_fate, address_fate, data_fate, line_command, size_in, size_allowed, command_in, data_checked, packet_in, whole_if, xor_of}
 use Rattle.serial.specs.Steps.{by_fate, after_handle, handled_on}
 use Rattle.serial_promises.specs.Streams.{Line, line, onward, after_all, sent_to}
@@ -63,7 +63,7 @@ opening rest load r = on refl (on refl (on refl (on refl (on refl (on refl (on r
 opening rest start r = on refl (on refl (on refl (on refl (on refl (on refl (on refl (on refl (on refl (on refl r)))))))))
 
 -- which command it is, and that it allows the size
-command_is : {c : Command} {opcode least most : ℕ} (rest : List ℕ) → Written c opcode least most → command_in (head_of opcode rest) ≡ Listed c
+command_is : {c : Command} {opcode least most : ℕ} (rest : List ℕ) → Written c opcode least most → command_in (head_of opcode rest) ≡ Some c
 unfolding line_command pick
 command_is rest delete = refl
 command_is rest upgrade = refl
@@ -73,7 +73,7 @@ command_is rest store = refl
 command_is rest load = refl
 command_is rest start = refl
 
-allowed : {c : Command} {opcode least most : ℕ} (n : ℕ) → Written c opcode least most → least ≤ n → n ≤ most → size_allowed (Listed c) n ≡ true
+allowed : {c : Command} {opcode least most : ℕ} (n : ℕ) → Written c opcode least most → least ≤ n → n ≤ most → size_allowed (Some c) n ≡ true
 allowed n delete p q = eq-eqb n 0 (omega arith)
 allowed n upgrade p q = eq-eqb n 0 (omega arith)
 allowed n update p q = eq-eqb n 65 (omega arith)

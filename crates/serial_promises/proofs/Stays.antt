@@ -1,4 +1,5 @@
 -- A READER STAYS A READER: from a new one on, whatever bytes come, no call is refused for its reader. Assumes nothing.
+use Rattle.std.specs.Prelude.{Option, Some, None}
 use Prim.Native.Nat.{ℕ, zero, suc, ◌+◌, ◌-◌, ◌<◌, ◌≤◌}
 use mathlib.Core.Path.{◌≡◌, refl, ◌∙◌}
 use mathlib.Core.Bool.{Bool, true, false, ◌&&◌, ◌||◌}
@@ -9,15 +10,14 @@ use lib.ListN.{length, drop, length-append, get_or-append}
 use borrow.Author.Tests.{ltb-true, ltb-false, eqb-true, leb-true}
 use Rattle.basics.specs.Choice.{pick, and_left, and_right, both_true}
 use Rattle.basics.specs.Words.{byte_at, zeros}
+use Rattle.packet.specs.declared.Command.{Command}
 use Rattle.packet.specs.declared.Command.TheVariants.{GetState, FwUpgrade, FwDelete, UpdateAuthKey, LockAuthKey, StoreUsrKey, LoadUsrKey, StartWs, LockUsrKey, UnloadUsrKey, ActivateAntirollback}
-use Rattle.packet.specs.declared.Opcode.{Opcode}
-use Rattle.packet.specs.declared.Opcode.TheVariants.{Listed, Unlisted}
 use native.Mathlib.Numerals.{add-one}
 use lib.Seq.{drop-append_seam}
-use Rattle.serial.specs.declared.Heard.TheVariants.{OutShort, NoReader}
+use Rattle.serial.specs.declared.Unheard.TheVariants.{OutShort, NoReader}
 use Rattle.serial.specs.InPlace.{reader_bytes, received_in, all_zero, is_reader, placed_by, refused_by, stepped_in_place}
 use Rattle.serial.proofs.Readers.{reader, reader_test, reader_length_lem, received_back}
-use Rattle.services.specs.declared.Numbers.{Numbers}
+use Rattle.services.specs.Calls.{Numbers}
 use Rattle.serial.specs.declared.Fate.{Fate}
 use Rattle.serial.specs.declared.Fate.TheVariants.{More, Right, Whole, Wrong}
 use Rattle.serial.specs.Line.{pair_right, opcode_right, address_right, address_checked, is_write, size_right, size_allowed, size_in, command_in, passed_by, is_open, judged, opening_fate, address_fate, data_fate}
@@ -133,19 +133,19 @@ pub stays_open : (k : Numbers) (s l F : List ℕ) (b : ℕ) → is_open s ≡ tr
 stays_open k s l F b e = fate_open (judged (s ++ (b ∷ []))) k (s ++ (b ∷ [])) l F (λ h. goes s b (opens s e) h)
 
 -- the same of a reader's bytes
-size_few : (o : Opcode) (n : ℕ) → size_allowed o n ≡ true → n ≤ 65
-size_few (Listed GetState) n e = absurd (let z : ◌≡◌ {A = ℕ} 0 1 = cc in omega arith)
-size_few (Listed FwUpgrade) n e = omega (arith, eqb-true n 0 e)
-size_few (Listed FwDelete) n e = omega (arith, eqb-true n 0 e)
-size_few (Listed UpdateAuthKey) n e = omega (arith, eqb-true n 65 e)
-size_few (Listed LockAuthKey) n e = omega (arith, eqb-true n 0 e)
-size_few (Listed StoreUsrKey) n e = omega (arith, leb-true n 46 (and_right (leb 2 n) (leb n 46) e))
-size_few (Listed LoadUsrKey) n e = omega (arith, eqb-true n 1 e)
-size_few (Listed StartWs) n e = omega (arith, eqb-true n 0 e)
-size_few (Listed LockUsrKey) n e = absurd (let z : ◌≡◌ {A = ℕ} 0 1 = cc in omega arith)
-size_few (Listed UnloadUsrKey) n e = absurd (let z : ◌≡◌ {A = ℕ} 0 1 = cc in omega arith)
-size_few (Listed ActivateAntirollback) n e = absurd (let z : ◌≡◌ {A = ℕ} 0 1 = cc in omega arith)
-size_few Unlisted n e = absurd (let z : ◌≡◌ {A = ℕ} 0 1 = cc in omega arith)
+size_few : (o : Option Command) (n : ℕ) → size_allowed o n ≡ true → n ≤ 65
+size_few (Some GetState) n e = absurd (let z : ◌≡◌ {A = ℕ} 0 1 = cc in omega arith)
+size_few (Some FwUpgrade) n e = omega (arith, eqb-true n 0 e)
+size_few (Some FwDelete) n e = omega (arith, eqb-true n 0 e)
+size_few (Some UpdateAuthKey) n e = omega (arith, eqb-true n 65 e)
+size_few (Some LockAuthKey) n e = omega (arith, eqb-true n 0 e)
+size_few (Some StoreUsrKey) n e = omega (arith, leb-true n 46 (and_right (leb 2 n) (leb n 46) e))
+size_few (Some LoadUsrKey) n e = omega (arith, eqb-true n 1 e)
+size_few (Some StartWs) n e = omega (arith, eqb-true n 0 e)
+size_few (Some LockUsrKey) n e = absurd (let z : ◌≡◌ {A = ℕ} 0 1 = cc in omega arith)
+size_few (Some UnloadUsrKey) n e = absurd (let z : ◌≡◌ {A = ℕ} 0 1 = cc in omega arith)
+size_few (Some ActivateAntirollback) n e = absurd (let z : ◌≡◌ {A = ℕ} 0 1 = cc in omega arith)
+size_few None n e = absurd (let z : ◌≡◌ {A = ℕ} 0 1 = cc in omega arith)
 
 open_few : (s : List ℕ) → Open s → length s ≤ 76
 open_few s o = by (ltb (length s) 11) refl

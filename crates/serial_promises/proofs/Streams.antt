@@ -10,9 +10,8 @@ use Rattle.basics.specs.Words.{zeros}
 use Rattle.packet.specs.declared.Command.{Command}
 use Rattle.packet.specs.declared.Refusal.TheVariants.{UnsoundRecord}
 use Rattle.device.specs.Layout.{decode}
-use Rattle.services.specs.declared.Numbers.{Numbers}
-use Rattle.services.specs.declared.Verdict.TheVariants.{Refused}
-use Rattle.services.specs.Calls.{handled}
+use Rattle.services.specs.Calls.{Numbers, handled}
+use Rattle.std.specs.Prelude.{Err}
 use Rattle.services.specs.InPlace.{HandlePlaced, handle_placed, handle_in_bytes, sound_for, handled_in_place}
 use Rattle.serial.specs.declared.Fate.{Fate}
 use Rattle.serial.specs.declared.Fate.TheVariants.{More, Right, Whole, Wrong}
@@ -63,7 +62,7 @@ unfolding handled_in_place pick
 handled_event k l F p = by (sound_for k l)
   where
     out : Bool → HandlePlaced
-    out t = pick t (handle_in_bytes (handled k (decode l) F p (zeros 8))) (handle_placed (Refused UnsoundRecord) l F (zeros (length (zeros 8))) 0)
+    out t = pick t (handle_in_bytes (handled k (decode l) F p (zeros 8))) (handle_placed (Err UnsoundRecord) l F (zeros (length (zeros 8))) 0)
 
     by : (t : Bool) → Effect k l F (out t).bytes (out t).flash
     by true = event p refl refl

@@ -3,7 +3,7 @@ use Rattle.std.specs.Prelude.{ℕ, ◌≡◌, List, [], ◌∷◌, ◌++◌}
 use Rattle.basics.specs.Words.{zeros}
 use Rattle.packet.specs.declared.Command.{Command}
 use Rattle.device.specs.Layout.{encode, decode}
-use Rattle.services.specs.declared.Numbers.{Numbers}
+use Rattle.services.specs.Calls.{Numbers}
 use Rattle.promises.specs.Demand.{called, packet}
 use Rattle.serial.specs.declared.Fate.TheVariants.{Whole}
 use Rattle.serial.specs.Line.{judged}

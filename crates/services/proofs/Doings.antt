@@ -21,7 +21,7 @@ use Rattle.device.specs.declared.Mode.{Mode}
 use Rattle.device.specs.declared.Mode.TheVariants.{Stack, Idle, Upgrade, Delete}
 use Rattle.soundness.specs.Sound.{job_of, plan_for, progress_sound, mode_sound, sound}
 use Rattle.soundness.proofs.Parts.{parts}
-use Rattle.services.specs.declared.Numbers.{Numbers}
+use Rattle.services.specs.Calls.{Numbers}
 use Rattle.services.specs.Calls.{Sensible}
 use Rattle.device.specs.Modes.{has_job, recorded_in}
 use Rattle.jobs.specs.Jobs.{Doing}

@@ -1,46 +1,45 @@
 -- What the calls' proofs stand on: parts of a packet, and what a sound record says of the flash.
 -- Assumes nothing.
-use Prim.Native.Nat.{ℕ, ◌-◌, ◌*◌, ◌≤◌, ◌<◌}
+use Prim.Native.Nat.{ℕ, ◌*◌, ◌≤◌}
 use mathlib.Core.Bool.{Bool, true, false, not, ◌&&◌, beq}
-use mathlib.Core.Path.{◌≡◌, refl, sym, ap, ◌∙◌}
+use mathlib.Core.Path.{◌≡◌, refl, ap, ◌∙◌}
 use mathlib.Core.List.{List, ◌∷◌}
 use native.Mathlib.Nat.{mul-le-mul_right}
 use native.Mathlib.Omega.{arith}
 use borrow.Author.Tests.{leb-true, le-leb, eq-eqb}
 use lib.Dec.{leb, eqb, lit≤}
-use lib.ListN.{length, take, drop, drop_of_length-le}
-use lib.Seq.{drop-length}
+use lib.ListN.{length, drop}
 use Rattle.basics.specs.Choice.{pick, and_left, and_right}
 use Rattle.packet.specs.declared.Command.{Command}
 use Rattle.packet.specs.declared.Command.TheVariants.{UpdateAuthKey}
-use Rattle.packet.specs.declared.Reading.TheVariants.{Lawful}
+use Rattle.packet.specs.Packets.{lawful_of}
 use Rattle.packet.specs.Packets.{read_of}
 use Rattle.packet.specs.Lawful.{Bytes}
 use Rattle.packet.proofs.Lawful.{read_from}
 use Rattle.answer.specs.declared.Failure.TheVariants.{NoImage}
 use Rattle.answer.specs.declared.Checked.TheVariants.{Fails}
 use Rattle.image.specs.Images.{checked_of, Erasable}
-use Rattle.image.proofs.Laws.{from_there}
 use Rattle.image.proofs.Answers.{checked_erasable}
+use Rattle.device.specs.declared.Board.{Board}
 use Rattle.device.specs.declared.Head.{Head}
 use Rattle.device.specs.Types.{Device}
 use Rattle.decisions.specs.Decisions.{searches}
 use Rattle.soundness.specs.Sound.{sound}
 use Rattle.soundness.proofs.Parts.{parts}
-use Rattle.services.specs.declared.Numbers.{Numbers}
+use Rattle.services.specs.Calls.{Numbers}
 use Rattle.services.proofs.Gated.{all_open}
-use Rattle.services.specs.Calls.{first, Sensible, terms_of, checked_for, key_in, by_reading, handled}
+use Rattle.services.specs.Calls.{numbers_of, first, Sensible, terms_of, checked_for, key_in, by_reading, handled}
 
 -- the first kind's numbers
 pub first_sensible : Sensible first
 first_sensible = record { header = lit≤ tt; small = lit≤ tt; below = lit≤ tt; few = lit≤ tt }
 
--- past the end of a packet there is nothing
-pub past_end : (s : List ℕ) (n : ℕ) → length s < n → take (length s - length s) (drop (length s) s) ≡ drop n s
-past_end s n h = from_there s (length s) ∙ drop-length s ∙ sym (drop_of_length-le s {i = n} (omega arith))
+-- those of every board are sensible
+pub sensible : (board : Board) → Sensible (numbers_of board)
+sensible board = record { header = board.header; small = board.small; below = board.below; few = board.few }
 
 -- an authentication key has 64 bytes
-pub auth_bytes : (s : List ℕ) (command : Command) (n : ℕ) → Bytes s → read_of s ≡ Lawful command n → command ≡ UpdateAuthKey → length (key_in command s) ≡ 64
+pub auth_bytes : (s : List ℕ) (command : Command) (n : ℕ) → Bytes s → read_of s ≡ lawful_of command n → command ≡ UpdateAuthKey → length (key_in command s) ≡ 64
 unfolding pick
 auth_bytes s command n b e u =
     let r = read_from s UpdateAuthKey n b (rw u at e) in
@@ -75,10 +74,6 @@ erasable k h command key F s low e = go (searches h.mode command)
     go : (t : Bool) → Erasable k.size (length F) (pick t (checked_of k.size (terms_of h) key F) (Fails NoImage))
     go true = checked_erasable k.size (terms_of h) key F (below_boundary k h.boundary F s low e)
     go false = tt
-
--- the bytes of the lent flash can be counted
-pub few_bytes : (k : Numbers) → Sensible k → k.count * k.size ≤ 4294967296
-few_bytes k s = omega (arith, mul-le-mul_right k.size s.few, s.small)
 
 -- on a sound record and fitting buffers the packet's reading decides
 pub handled_by : (k : Numbers) (d : Device) (F packet R : List ℕ) → sound k.size k.top d ≡ true → length F ≡ k.count * k.size → 8 ≤ length R

@@ -1,14 +1,11 @@
 -- Paper 01, "The calls are also offered to the updater's C test host": each call on a record's bytes. Where they are a sound record's, what
 -- the call by value makes of the device that they are, encoded; else refusal 1, and they do not change.
-use Rattle.std.specs.Prelude.{ℕ, Bool, List, eqb, length}
+use Rattle.std.specs.Prelude.{ℕ, Bool, List, Err, eqb, length}
 use Rattle.basics.specs.Choice.{pick}
 use Rattle.basics.specs.Words.{zeros}
 use Rattle.packet.specs.declared.Refusal.TheVariants.{UnsoundRecord}
 use Rattle.device.specs.Kind.{fresh_device}
-use Rattle.services.specs.declared.Numbers.{Numbers}
-use Rattle.services.specs.declared.Verdict.{Verdict}
-use Rattle.services.specs.declared.Verdict.TheVariants.{Taken, Refused}
-use Rattle.services.specs.Calls.{HandleResult, RestartResult, WorkResult, CutResult, handled, restarted, worked, cut_off}
+use Rattle.services.specs.Calls.{Numbers, Verdict, granted, HandleResult, RestartResult, WorkResult, CutResult, handled, restarted, worked, cut_off}
 use Rattle.device.specs.Layout.{record_length, encode, decode}
 use Rattle.soundness.specs.Sound.{sound_record}
 
@@ -80,24 +77,24 @@ sound_for k l = sound_record k.size k.top l
 -- FRESH: another length is refusal 1
 unfoldable pub fresh_in_place : List ℕ → FreshPlaced
 fresh_in_place l =
-    pick (eqb (length l) record_length) (fresh_placed Taken (encode fresh_device)) (fresh_placed (Refused UnsoundRecord) l)
+    pick (eqb (length l) record_length) (fresh_placed granted (encode fresh_device)) (fresh_placed (Err UnsoundRecord) l)
 
 -- HANDLE A PACKET
 unfoldable pub handled_in_place : Numbers → List ℕ → List ℕ → List ℕ → List ℕ → HandlePlaced
 handled_in_place k l F packet R =
-    pick (sound_for k l) (handle_in_bytes (handled k (decode l) F packet R)) (handle_placed (Refused UnsoundRecord) l F (zeros (length R)) 0)
+    pick (sound_for k l) (handle_in_bytes (handled k (decode l) F packet R)) (handle_placed (Err UnsoundRecord) l F (zeros (length R)) 0)
 
 -- RESTART
 unfoldable pub restarted_in_place : Numbers → List ℕ → List ℕ → RestartPlaced
 restarted_in_place k l R =
-    pick (sound_for k l) (restart_in_bytes (restarted k (decode l) R)) (restart_placed (Refused UnsoundRecord) l (zeros (length R)))
+    pick (sound_for k l) (restart_in_bytes (restarted k (decode l) R)) (restart_placed (Err UnsoundRecord) l (zeros (length R)))
 
 -- WORK
 unfoldable pub worked_in_place : Numbers → List ℕ → List ℕ → WorkPlaced
 worked_in_place k l F =
-    pick (sound_for k l) (work_in_bytes (worked k (decode l) F)) (work_placed (Refused UnsoundRecord) l F 0)
+    pick (sound_for k l) (work_in_bytes (worked k (decode l) F)) (work_placed (Err UnsoundRecord) l F 0)
 
 -- CUT
 unfoldable pub cut_in_place : Numbers → List ℕ → List ℕ → List ℕ → Bool → List ℕ → CutPlaced
 cut_in_place k l F x through R =
-    pick (sound_for k l) (cut_in_bytes (cut_off k (decode l) F x through R)) (cut_placed (Refused UnsoundRecord) l F (zeros (length R)))
+    pick (sound_for k l) (cut_in_bytes (cut_off k (decode l) F x through R)) (cut_placed (Err UnsoundRecord) l F (zeros (length R)))

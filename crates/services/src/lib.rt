@@ -1,326 +1,300 @@
 // The calls on a record's bytes, in place: fresh device, handle a packet, restart, work (one store), cut. `value` has them by value.
-#![tactic(auto)]
+// Kept: the lent buffers are parameters and no struct: C lends each by itself, and `handle_placed` and its like speak of each after the call.
+#![tactic(auto, unfolding(basics::specs::Choice::pick, crate::specs::Calls::gated, crate::specs::InPlace::fresh_in_place, device::specs::Layout::decode, device::specs::Layout::head_in))]
 
 pub mod value;
 
-ghost use Rattle.std.specs.Prelude.{◌≡◌, true, ◌*◌, ◌≤◌, length};
+ghost use Rattle.std.specs.Prelude.{◌≡◌, true, ◌*◌, ◌≤◌, leb, length, Err};
 ghost use Rattle.basics.specs.Words.{zeros};
+ghost use Rattle.packet.specs.Packets.{read_of};
+ghost use Rattle.answer.specs.Answers.{told};
 ghost use Rattle.device.specs.Types as Types;
 ghost use Rattle.device.specs.Modes.{has_job};
-ghost use Rattle.device.specs.Layout.{record_length, encode, decode};
+ghost use Rattle.device.specs.Layout.{encode, decode};
 ghost use Rattle.device.specs.Fields.{Held, Loses};
-ghost use Rattle.services.specs.Calls.{first, Sensible, gated, Taking, checked_for, key_in, reply_to, event_for, answered, worked_on, cut_in};
+ghost use Rattle.services.specs.Calls.{numbers_of, first, granted, verdict_of, reason_told, left_told, gated, admitted, lent, Taking, checked_for, key_in, reply_to, event_for, answered, worked_on, cut_in};
 ghost use Rattle.services.specs.InPlace.{handle_placed, restart_placed, work_placed, cut_placed, fresh_placed, handle_in_bytes, work_in_bytes, cut_in_bytes, sound_for, fresh_in_place, handled_in_place, restarted_in_place, worked_in_place, cut_in_place};
 
-use answer::{Answer, Checked, Failure};
-use device::{Device, fields, places};
+use answer::{Answer, Checked, Failure, Reason};
+use device::{Board, Record, fields, places};
 use image::Terms;
-use packet::{Command, Reading, Refusal};
-
-// The numbers of a kind of device: bytes in a sector, sectors of the lent flash, the first sector of FUS.
-#[derive(Clone, Copy)]
-pub struct Numbers {
-    pub size: usize,
-    pub count: usize,
-    pub top: usize,
-}
-
-// Was the call taken?
-#[derive(Clone, Copy)]
-pub enum Verdict {
-    Taken,
-    Refused(Refusal),
-}
-
-// What handle answers: also why a key was turned down, as a number; 0 for no reason.
-#[derive(Clone, Copy)]
-pub struct Told {
-    pub verdict: Verdict,
-    pub reason: u8,
-}
-
-// The numbers of the first kind.
-fn first_kind() -> Numbers
-    ensures { result ≡ first }
-{
-    Numbers {
-        size: Device::SECTOR_SIZE,
-        count: Device::SECTOR_COUNT,
-        top: Device::FUS_SECTOR,
-    }
-}
+use packet::{Command, Refusal, Request};
 
 // Refusals 1, 2, 3 and 10, the lowest first: is the record sound, has the flash its length, does the reply fit, has the filler its length? A
 // call that does not use a number gives true for it.
-fn gate(sound: bool, lent: bool, fits: bool, filled: bool) -> Verdict
+fn gate(sound: bool, lent: bool, fits: bool, filled: bool) -> Result<(), Refusal>
     ensures { result ≡ gated sound lent fits filled }
 {
     if !sound {
-        return Verdict::Refused(Refusal::UnsoundRecord);
+        return Err(Refusal::UnsoundRecord);
     }
     if !lent {
-        return Verdict::Refused(Refusal::FlashLength);
+        return Err(Refusal::FlashLength);
     }
     if !fits {
-        return Verdict::Refused(Refusal::ReplyShort);
+        return Err(Refusal::ReplyShort);
     }
     if !filled {
-        return Verdict::Refused(Refusal::FillerLength);
+        return Err(Refusal::FillerLength);
     }
-    Verdict::Taken
+    Ok(())
+}
+
+// Has the flash its length?
+fn is_lent(board: Board, flash: &[u8]) -> bool
+    ensures { result ≡ lent (numbers_of board) flash.now }
+{
+    flash.len() == board.count * board.size
 }
 
 // A refused call fills its reply buffer with zeros.
-fn refuse(reply: &mut [u8], refusal: Refusal) -> Verdict
-    ensures value { result ≡ Verdict.Refused refusal }
+fn refuse<T>(reply: &mut [u8], refusal: Refusal) -> Result<T, Refusal>
+    ensures value { result ≡ Err refusal }
     ensures reply_after { reply.new ≡ zeros (length reply.old) }
 {
     reply::clear(reply);
-    Verdict::Refused(refusal)
+    Err(refusal)
 }
 
 // A FRESH DEVICE's bytes; a record of another length is refused and stays as it is.
-pub fn fresh(rec: &mut [u8]) -> Verdict
+pub fn fresh(rec: &mut [u8]) -> Result<(), Refusal>
     ensures { fresh_placed result rec.new ≡ fresh_in_place rec.old }
 {
-    if rec.len() != places::LENGTH {
-        return Verdict::Refused(Refusal::UnsoundRecord);
-    }
-    fields::set_fresh(rec);
-    Verdict::Taken
+    let Some(record) = rec.as_mut_array() else {
+        return Err(Refusal::UnsoundRecord);
+    };
+    fields::set_fresh(record);
+    Ok(())
 }
 
 // The key bytes of a packet.
-fn key_in<'a>(command: Command, packet: &'a [u8]) -> &'a [u8]
+fn key_in(command: Command, packet: &[u8]) -> &[u8]
     ensures { result.now ≡ key_in command packet.now }
 {
-    let n = packet.len();
-    if packet::opcode_of(command) == 0xFC56 {
-        if 5 <= n {
-            return &packet[5..];
-        }
-        return &packet[n..];
+    // behind its size; a user key's type stands before that
+    let at = match command {
+        Command::UpdateAuthKey => 5,
+        _ => 6,
+    };
+    if at <= packet.len() {
+        &packet[at..]
+    } else {
+        &[]
     }
-    if 6 <= n {
-        return &packet[6..];
-    }
-    &packet[n..]
 }
 
 // The checks, where an image is looked for at all.
-fn look_for(k: Numbers, rec: &[u8], command: Command, flash: &[u8]) -> Checked
-    requires sensible { Sensible k }
-    requires rec_len { length rec.now ≡ record_length }
-    requires rec_bound { ((decode rec.now).head.boundary ≤ k.top) × (length flash.now ≡ k.count * k.size) }
-    ensures { result ≡ checked_for k (decode rec.now).head command (decode rec.now).key flash.now }
+fn look_for(board: Board, rec: &Record, command: Command, flash: &[u8]) -> Checked
+    requires { ((decode rec.now).head.boundary ≤ board.top) × (length flash.now ≡ board.count * board.size) }
+    ensures { result ≡ checked_for (numbers_of board) (decode rec.now).head command (decode rec.now).key flash.now }
 {
-    if decisions::searches(rec, command) {
-        let terms = Terms {
-            boundary: fields::boundary(rec) as usize,
-            auth: fields::authed(rec),
-            rollback: fields::rollback(rec),
-            floor: fields::floor(rec),
-        };
-        return image::check(flash, k.size, terms, fields::auth_key(rec));
+    if !decisions::searches(rec, command) {
+        return Checked::Fails(Failure::NoImage);
     }
-    Checked::Fails(Failure::NoImage)
-}
-
-// A packet that is refused.
-fn turn_away(reply: &mut [u8], refusal: Refusal) -> Told
-    ensures value { result ≡ record { verdict = Verdict.Refused refusal; reason = 0 } }
-    ensures reply_after { reply.new ≡ zeros (length reply.old) }
-{
-    let verdict = refuse(reply, refusal);
-    Told { verdict, reason: 0 }
+    let terms = Terms {
+        boundary: fields::word(rec, places::BOUNDARY) as usize,
+        auth: fields::flag(rec, places::AUTH),
+        rollback: fields::flag(rec, places::ROLLBACK),
+        floor: fields::word(rec, places::FLOOR),
+    };
+    image::check(flash, board.size, terms, fields::auth_key(rec))
 }
 
 // The response to a command, written.
 fn respond(reply: &mut [u8], command: Command, answer: Answer)
     ensures { reply.new ≡ reply_to command answer (length reply.old) }
 {
-    reply::write_response(
-        reply,
-        command,
-        answer::status_of(answer),
-        answer::payload_of(answer),
-    );
+    reply::write_response(reply, command, answer.status(), answer.payload());
 }
 
-// The lawful command of a packet, answered.
+// The lawful command of a packet, answered; and why a key was turned down.
 fn answer_to(
-    k: Numbers,
-    rec: &mut [u8],
+    board: Board,
+    rec: &mut Record,
     flash: &mut [u8],
     packet: &[u8],
     reply: &mut [u8],
     command: Command,
-) -> Told
-    requires sensible { Sensible k }
+) -> Option<Reason>
     requires held { Held rec.old }
-    requires taking { Taking k (decode rec.old) flash.old packet.now reply.old command }
-    ensures { handle_placed result.verdict rec.new flash.new reply.new result.reason ≡ handle_in_bytes (answered k (decode rec.old) flash.old packet.now reply.old command) }
+    requires taking { Taking (numbers_of board) (decode rec.old) flash.old packet.now reply.old command }
+    ensures { handle_placed granted rec.new flash.new reply.new (told result) ≡ handle_in_bytes (answered (numbers_of board) (decode rec.old) flash.old packet.now reply.old command) }
 {
-    let checked = look_for(k, rec, command, flash);
+    let checked = look_for(board, rec, command, flash);
     let first = basics::byte_at(packet, 4);
     let answer = decisions::command(rec, checked, command, first, key_in(command, packet));
-    image::clear_after(flash, k.size, checked);
+    image::clear_after(flash, board.size, checked);
     respond(reply, command, answer);
-    Told {
-        verdict: Verdict::Taken,
-        reason: answer::reason_in(answer),
-    }
+    answer.reason()
+}
+
+// The packet, read where the gate is open.
+fn admit(
+    board: Board,
+    rec: &Record,
+    flash: &[u8],
+    packet: &[u8],
+    reply: &[u8],
+) -> Result<Request, Refusal>
+    ensures { result ≡ admitted (gated (sound_for (numbers_of board) rec.now) (lent (numbers_of board) flash.now) (leb 8 (length reply.now)) true) (read_of packet.now) }
+{
+    let sound = soundness::is_sound(rec, board.size, board.top);
+    gate(sound, is_lent(board, flash), 8 <= reply.len(), true)?;
+    packet::read(packet)
 }
 
 // Handles a packet on the record of a device of any kind.
-fn handle_as(k: Numbers, rec: &mut [u8], flash: &mut [u8], packet: &[u8], reply: &mut [u8]) -> Told
-    requires { Sensible k }
-    ensures { handle_placed result.verdict rec.new flash.new reply.new result.reason ≡ handled_in_place k rec.old flash.old packet.now reply.old }
+fn handle_as(
+    board: Board,
+    rec: &mut [u8],
+    flash: &mut [u8],
+    packet: &[u8],
+    reply: &mut [u8],
+) -> Result<Option<Reason>, Refusal>
+    ensures { handle_placed (verdict_of result) rec.new flash.new reply.new (reason_told result) ≡ handled_in_place (numbers_of board) rec.old flash.old packet.now reply.old }
 {
-    let sound = soundness::is_sound(rec, k.size, k.top);
-    let verdict = gate(
-        sound,
-        flash.len() == k.count * k.size,
-        8 <= reply.len(),
-        true,
-    );
-    match verdict {
-        Verdict::Taken => {
-            let reading = packet::read(packet);
-            match reading {
-                Reading::Lawful { command, length: _ } => {
-                    answer_to(k, rec, flash, packet, reply, command)
-                }
-                Reading::Refused(refusal) => turn_away(reply, refusal),
-            }
-        }
-        Verdict::Refused(refusal) => turn_away(reply, refusal),
+    let Some(rec) = rec.as_mut_array() else {
+        return refuse(reply, Refusal::UnsoundRecord);
+    };
+    match admit(board, rec, flash, packet, reply) {
+        Ok(request) => Ok(answer_to(board, rec, flash, packet, reply, request.command)),
+        Err(refusal) => refuse(reply, refusal),
     }
 }
 
-// HANDLE A PACKET.
-pub fn handle(rec: &mut [u8], flash: &mut [u8], packet: &[u8], reply: &mut [u8]) -> Told
-    ensures { handle_placed result.verdict rec.new flash.new reply.new result.reason ≡ handled_in_place first rec.old flash.old packet.now reply.old }
+// HANDLE A PACKET; and beside the reply why a key was turned down.
+pub fn handle(
+    rec: &mut [u8],
+    flash: &mut [u8],
+    packet: &[u8],
+    reply: &mut [u8],
+) -> Result<Option<Reason>, Refusal>
+    ensures { handle_placed (verdict_of result) rec.new flash.new reply.new (reason_told result) ≡ handled_in_place first rec.old flash.old packet.now reply.old }
 {
-    handle_as(first_kind(), rec, flash, packet, reply)
+    handle_as(Board::first(), rec, flash, packet, reply)
 }
 
 // The device starts: the event tells which program runs, and what is lost is lost.
-fn start(rec: &mut [u8], event: &mut [u8])
-    requires { length rec.old ≡ record_length }
+fn start(rec: &mut Record, event: &mut [u8])
     ensures loses { Loses rec.old rec.new }
     ensures event_after { (d : Types.Device) → rec.old ≡ encode d → event.new ≡ event_for d (length event.old) }
 {
-    reply::write_event(event, fields::stack_runs(rec));
+    reply::write_event(event, fields::mode(rec).stack_runs());
     fields::lose(rec);
 }
 
 // Restarts the record of a device of any kind.
-fn restart_as(k: Numbers, rec: &mut [u8], event: &mut [u8]) -> Verdict
-    requires { Sensible k }
-    ensures { restart_placed result rec.new event.new ≡ restarted_in_place k rec.old event.old }
+fn restart_as(board: Board, rec: &mut [u8], event: &mut [u8]) -> Result<(), Refusal>
+    ensures { restart_placed result rec.new event.new ≡ restarted_in_place (numbers_of board) rec.old event.old }
 {
-    let sound = soundness::is_sound(rec, k.size, k.top);
-    let verdict = gate(sound, true, 6 <= event.len(), true);
-    match verdict {
-        Verdict::Taken => {
+    let Some(rec) = rec.as_mut_array() else {
+        return refuse(event, Refusal::UnsoundRecord);
+    };
+    match gate(
+        soundness::is_sound(rec, board.size, board.top),
+        true,
+        6 <= event.len(),
+        true,
+    ) {
+        Ok(()) => {
             start(rec, event);
-            Verdict::Taken
+            Ok(())
         }
-        Verdict::Refused(refusal) => refuse(event, refusal),
+        Err(refusal) => refuse(event, refusal),
     }
 }
 
 // RESTART: the power comes back, and the event tells which program runs.
-pub fn restart(rec: &mut [u8], event: &mut [u8]) -> Verdict
+pub fn restart(rec: &mut [u8], event: &mut [u8]) -> Result<(), Refusal>
     ensures { restart_placed result rec.new event.new ≡ restarted_in_place first rec.old event.old }
 {
-    restart_as(first_kind(), rec, event)
+    restart_as(Board::first(), rec, event)
 }
 
-// One store of a job. The record is stored before the flash, which is faster.
-fn work_on(k: Numbers, rec: &mut [u8], flash: &mut [u8], left: &mut u32)
-    requires sensible { Sensible k }
-    requires rec_value { (sound_for k rec.old ≡ true) × (length flash.old ≡ k.count * k.size) }
-    requires rec_value_2 { has_job (decode rec.old).head.mode ≡ true }
-    ensures { work_placed Verdict.Taken rec.new flash.new left.new ≡ work_in_bytes (worked_on k (decode rec.old) flash.old) }
+// One store of a job, and how many are still to do after it. The record is stored before the flash, which is faster.
+fn work_on(board: Board, rec: &mut Record, flash: &mut [u8]) -> u32
+    requires fitting { (sound_for (numbers_of board) rec.old ≡ true) × (length flash.old ≡ board.count * board.size) }
+    requires job { has_job (decode rec.old).head.mode ≡ true }
+    ensures { work_placed granted rec.new flash.new result ≡ work_in_bytes (worked_on (numbers_of board) (decode rec.old) flash.old) }
 {
-    let store = jobs::next(rec, k.size, k.top);
-    *left = jobs::advance(rec, k.size, k.top, store) as u32;
-    jobs::stores::make(flash, k.size, store);
+    let store = jobs::next(rec, board);
+    let left = jobs::advance(rec, board, store) as u32;
+    jobs::stores::make(flash, board, store);
+    left
 }
 
 // Works on the record of a device of any kind.
-fn work_as(k: Numbers, rec: &mut [u8], flash: &mut [u8], left: &mut u32) -> Verdict
-    requires { Sensible k }
-    ensures { work_placed result rec.new flash.new left.new ≡ worked_in_place k rec.old flash.old }
+fn work_as(board: Board, rec: &mut [u8], flash: &mut [u8]) -> Result<u32, Refusal>
+    ensures { work_placed (verdict_of result) rec.new flash.new (left_told result) ≡ worked_in_place (numbers_of board) rec.old flash.old }
 {
-    *left = 0;
-    let sound = soundness::is_sound(rec, k.size, k.top);
-    let verdict = gate(sound, flash.len() == k.count * k.size, true, true);
-    match verdict {
-        Verdict::Taken => {
-            if fields::has_job(rec) {
-                work_on(k, rec, flash, left);
-            }
-            Verdict::Taken
-        }
-        Verdict::Refused(refusal) => Verdict::Refused(refusal),
+    let Some(rec) = rec.as_mut_array() else {
+        return Err(Refusal::UnsoundRecord);
+    };
+    gate(
+        soundness::is_sound(rec, board.size, board.top),
+        is_lent(board, flash),
+        true,
+        true,
+    )?;
+    if fields::mode(rec).has_job() {
+        Ok(work_on(board, rec, flash))
+    } else {
+        Ok(0)
     }
 }
 
-// WORK: one store; `left` becomes how many are still to do after it.
-pub fn work(rec: &mut [u8], flash: &mut [u8], left: &mut u32) -> Verdict
-    ensures { work_placed result rec.new flash.new left.new ≡ worked_in_place first rec.old flash.old }
+// WORK: one store, and how many are still to do after it.
+pub fn work(rec: &mut [u8], flash: &mut [u8]) -> Result<u32, Refusal>
+    ensures { work_placed (verdict_of result) rec.new flash.new (left_told result) ≡ worked_in_place first rec.old flash.old }
 {
-    work_as(first_kind(), rec, flash, left)
+    work_as(Board::first(), rec, flash)
 }
 
 // The next store of a job is cut, and a restart follows.
 fn cut_on(
-    k: Numbers,
-    rec: &mut [u8],
+    board: Board,
+    rec: &mut Record,
     flash: &mut [u8],
     filler: &[u8],
     through: bool,
     event: &mut [u8],
 )
-    requires sensible { Sensible k }
-    requires rec_value { (sound_for k rec.old ≡ true) × (length flash.old ≡ k.count * k.size) }
-    requires rec_value_2 { (has_job (decode rec.old).head.mode ≡ true) × (length filler.now ≡ k.size) }
-    ensures { cut_placed Verdict.Taken rec.new flash.new event.new ≡ cut_in_bytes (cut_in k (decode rec.old) flash.old filler.now through event.old) }
+    requires fitting { (sound_for (numbers_of board) rec.old ≡ true) × (length flash.old ≡ board.count * board.size) }
+    requires job { (has_job (decode rec.old).head.mode ≡ true) × (length filler.now ≡ board.size) }
+    ensures { cut_placed granted rec.new flash.new event.new ≡ cut_in_bytes (cut_in (numbers_of board) (decode rec.old) flash.old filler.now through event.old) }
 {
-    let store = jobs::next(rec, k.size, k.top);
-    jobs::break_off(rec, k.size, k.top, store, through);
-    jobs::stores::cut(flash, k.size, store, filler);
+    let store = jobs::next(rec, board);
+    jobs::break_off(rec, board, store, through);
+    jobs::stores::cut(flash, board, store, filler);
     start(rec, event);
 }
 
 // Cuts the power of the record of a device of any kind.
 fn cut_as(
-    k: Numbers,
+    board: Board,
     rec: &mut [u8],
     flash: &mut [u8],
     filler: &[u8],
     through: bool,
     event: &mut [u8],
-) -> Verdict
-    requires { Sensible k }
-    ensures { cut_placed result rec.new flash.new event.new ≡ cut_in_place k rec.old flash.old filler.now through event.old }
+) -> Result<(), Refusal>
+    ensures { cut_placed result rec.new flash.new event.new ≡ cut_in_place (numbers_of board) rec.old flash.old filler.now through event.old }
 {
-    let sound = soundness::is_sound(rec, k.size, k.top);
-    let lent = flash.len() == k.count * k.size;
-    let verdict = gate(sound, lent, 6 <= event.len(), filler.len() == k.size);
-    match verdict {
-        Verdict::Taken => {
-            if fields::has_job(rec) {
-                cut_on(k, rec, flash, filler, through, event);
+    let Some(rec) = rec.as_mut_array() else {
+        return refuse(event, Refusal::UnsoundRecord);
+    };
+    let sound = soundness::is_sound(rec, board.size, board.top);
+    let filled = filler.len() == board.size;
+    match gate(sound, is_lent(board, flash), 6 <= event.len(), filled) {
+        Ok(()) => {
+            if fields::mode(rec).has_job() {
+                cut_on(board, rec, flash, filler, through, event);
             } else {
                 start(rec, event);
             }
-            Verdict::Taken
+            Ok(())
         }
-        Verdict::Refused(refusal) => refuse(event, refusal),
+        Err(refusal) => refuse(event, refusal),
     }
 }
 
@@ -331,8 +305,8 @@ pub fn cut(
     filler: &[u8],
     through: bool,
     event: &mut [u8],
-) -> Verdict
+) -> Result<(), Refusal>
     ensures { cut_placed result rec.new flash.new event.new ≡ cut_in_place first rec.old flash.old filler.now through event.old }
 {
-    cut_as(first_kind(), rec, flash, filler, through, event)
+    cut_as(Board::first(), rec, flash, filler, through, event)
 }

@@ -1,23 +1,19 @@
 -- The slots in the order in which the code goes over them: the master's, the user keys', and those that hold nothing.
 -- Assumes nothing.
 use Prim.Native.Nat.{ℕ, zero, suc, ◌+◌, ◌*◌, ◌≤◌, ◌<◌}
-use mathlib.Core.Path.{◌≡◌, refl, sym}
-use mathlib.Core.Bool.{Bool, true, false, not, ◌&&◌, ◌||◌, or-true, or-false}
+use mathlib.Core.Path.{◌≡◌, refl, sym, ◌∙◌}
+use mathlib.Core.Bool.{Bool, true, false, not, ◌&&◌, or-true}
 use mathlib.Core.List.{List}
 use native.Mathlib.Omega.{arith}
-use borrow.Author.Tests.{le-leb, ltb-true, ltb-false, lt-ltb, le-ltb, not-true, eqb-true, eq-eqb}
-use lib.Dec.{leb, ltb, eqb}
-use lib.ListN.{get_or}
+use borrow.Author.Tests.{le-leb, ltb-true, ltb-false, lt-ltb, le-ltb, not-true, eq-eqb}
+use lib.Dec.{ltb}
+use lib.ListN.{get_or, drop}
+use lib.Seq.{get_or-take, get_or-drop}
+use Rattle.device.specs.Layout.{part}
 use Rattle.basics.specs.Choice.{pick, both_true, and_left, and_right, or_either}
 use Rattle.soundness.specs.Sound.{none_in, master_in, user_in, first_in, place_in, place_test, users_end, slot_test, all_below, slots_sound}
 use Rattle.soundness.proofs.Laws.{all_below_lem, each_below}
 use Rattle.soundness.proofs.Slots.{Slot, none, master, user, none_in_lem, master_in_lem, user_in_lem, slot_of, slot_sound_lem}
-
--- a user key that is not encrypted
-pub plain_user : (kind size lock : ℕ) (t : Bool) → eqb kind 1 ≡ t → eqb kind 3 ≡ false
-    → ((eqb kind 1 || eqb kind 3) && (eqb size 16 || eqb size 32) && leb lock 1) ≡ user_in kind size lock
-plain_user kind size lock true e n = let k : kind ≡ 1 = eqb-true kind 1 e in rw (k, or-false (eqb size 16 || eqb size 32))
-plain_user kind size lock false e n = rw (e, n)
 
 -- tests that hold together are the same
 same : (a b : Bool) → (a ≡ true → b ≡ true) → (b ≡ true → a ≡ true) → a ≡ b
@@ -59,6 +55,10 @@ module _ (i count kind size lock : ℕ) where
   none_of low high (none k s l h) = rw (eq-eqb kind 0 k, eq-eqb size 0 s, eq-eqb lock 0 l)
   none_of low high (master k law l q) = let z : ⊥ = omega arith in absurd z
   none_of low high (user k law l low₂ high₂) = let z : ⊥ = omega arith in absurd z
+
+-- the byte at an index of one of a record's arrays
+pub in_part : (at n : ℕ) (l : List ℕ) (i : ℕ) → i < n → get_or (part at n l) i 0 ≡ get_or l (at + i) 0
+in_part at n l i h = get_or-take n (drop at l) i 0 h ∙ get_or-drop at l i 0
 
 -- where a loop begins
 pub places_start : (from end : ℕ) (kinds sizes locks : List ℕ) → all_below from (place_test from end kinds sizes locks) ≡ true

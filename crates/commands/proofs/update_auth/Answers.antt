@@ -6,10 +6,6 @@ use Rattle.device.specs.Layout.{decode, head_in}
 use Rattle.device.proofs.Laws.{finish, steps}
 use Rattle.commands.proofs.update_auth.Goals as goal
 
-pub returns-then-locked : goal.returns-then-locked
-unfolding head_in
-returns-then-locked c = search steps
-
 pub returns : goal.returns
 unfolding decode head_in
 returns c =

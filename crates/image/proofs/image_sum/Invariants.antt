@@ -1,9 +1,6 @@
-use Rattle.std.proofs.Common.{◌≡◌, ◌+◌, ◌-◌, ◌%◌, ◌^◌, ◌<◌, ◌≤◌, length, drop}
-use Rattle.image.specs.Sums.{total}
+use Rattle.std.proofs.Common.{◌≡◌, ◌+◌, ◌%◌, ◌^◌, drop}
+use Rattle.image.proofs.Laws.{values}
 use Rattle.image.proofs.image_sum.Given as goal
 
-abbrev pub invariant-loop-i : goal.invariant-loop-i
-invariant-loop-i l = (l.i ≤ length l.body) × (l.sum < 2 ^ 32) × ((l.sum + total (drop l.i l.body)) % 2 ^ 32 ≡ total l.body % 2 ^ 32)
-
-abbrev pub decreases-loop-i : goal.decreases-loop-i
-decreases-loop-i l = length l.body - l.i
+abbrev pub invariant-loop-word : goal.invariant-loop-word
+invariant-loop-word l = (l.sum + values (drop l.word-index l.words)) % 2 ^ 32 ≡ values l.words % 2 ^ 32

@@ -1,24 +1,21 @@
-use Prim.Native.Nat.{ℕ, suc, ◌+◌}
-use mathlib.Core.Path.{◌≡◌, ◌∙◌, ap}
-use native.Mathlib.Numerals.{add-one}
-use native.Mathlib.Omega.{arith}
+use Rattle.std.proofs.Common.{arith, ◌≡◌, ◌∙◌, ap, ℕ, suc, ◌+◌, add-one}
 use Rattle.plan.specs.Stores as Stores
 use Rattle.soundness.specs.Sound.{plan_for}
 use Rattle.device.specs.Modes.{recorded_in}
+use Rattle.device.specs.Layout.{head_in, encode, decode}
 use Rattle.jobs.specs.Jobs.{progressed}
 use Rattle.jobs.proofs.Turns.{made_few}
-use Rattle.device.specs.Layout.{head_in, encode, decode}
-use Rattle.jobs.proofs.Bytes.{job_recorded}
 use Rattle.jobs.proofs.store_made.Goals as goal
 
 pub overflow_add-made : goal.overflow_add-made
 unfolding head_in
-overflow_add-made c = record { fits = omega (arith, made_few c.requires.doing, c.made-made.ensures) }
+overflow_add-made c = record { fits = omega (arith, made_few c.requires.doing, c.byte-made.ensures) }
 
 pub returns : goal.returns
 unfolding head_in
-returns c = let m : c.made-made.result + 1 ≡ suc (head_in c.args.rec.now).made = rw (c.made-made.ensures, add-one) in
-    let r : c.recorded.result ≡ recorded_in (head_in c.args.rec.now).mode = c.recorded.ensures ∙ job_recorded c.args.size c.args.top c.args.rec.now c.requires in record {
-      reaches = c.put_made.ensures ∙ ap (λ (x : ℕ). encode (progressed c.args.size c.args.top (decode c.args.rec.now) (Stores.going (recorded_in (head_in c.args.rec.now).mode) x))) m;
-      value = c.left-left.ensures ∙ (ap (λ (x : ℕ). Stores.left (plan_for c.args.size c.args.top (head_in c.args.rec.now)) x (c.made-made.result + 1)) r ∙ ap (λ (x : ℕ). Stores.left (plan_for c.args.size c.args.top (head_in c.args.rec.now)) (recorded_in (head_in c.args.rec.now).mode) x) m);
+returns c =
+    let h = head_in c.args.rec.now in
+    let m : c.byte-made.result + 1 ≡ suc h.made = rw (c.byte-made.ensures, add-one) in record {
+      reaches = c.put_made.ensures ∙ ap (λ (x : ℕ). encode (progressed c.args.board.size c.args.board.top (decode c.args.rec.now) (Stores.going (recorded_in h.mode) x))) m;
+      value = c.left-left.ensures ∙ (ap (λ (x : ℕ). Stores.left (plan_for c.args.board.size c.args.board.top h) x (c.byte-made.result + 1)) c.recorded.ensures ∙ ap (λ (x : ℕ). Stores.left (plan_for c.args.board.size c.args.board.top h) (recorded_in h.mode) x) m);
     }

@@ -8,6 +8,3 @@ unfolding decode
 returns-then-stored c =
     let e = locked c.args.rec.now _ _ Accepted c.args.index (c.set_error.ensures _ c.set_lock.ensures) in
     search steps
-
-pub returns : goal.returns
-returns c = search steps

@@ -1,8 +1,12 @@
-use Rattle.basics.specs.Choice.{cases}
+use Rattle.std.proofs.Common.{◌≡◌, Bool, true, false, refl, not}
+use Rattle.basics.specs.Choice.{pick}
+use Rattle.reply.specs.Replies.{code_of}
 use Rattle.reply.proofs.code_of.Goals as goal
 
-pub returns-then-stack : goal.returns-then-stack
-returns-then-stack c = search cases
+code : (stack : Bool) → mir.Val.bool_byte (not stack) ≡ code_of stack
+unfolding pick
+code true = refl
+code false = refl
 
-pub returns-else-stack : goal.returns-else-stack
-returns-else-stack c = search cases
+pub returns : goal.returns
+returns c = code c.args.stack

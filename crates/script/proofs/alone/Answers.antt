@@ -1,19 +1,10 @@
-use Rattle.basics.specs.Choice.{cases}
-use Rattle.script.specs.Orders.{lone_order}
+use Rattle.std.proofs.Common.{arith}
+use Rattle.std.proofs.lemmas.Grind.{common_steps}
+use Rattle.basics.specs.Choice.{pick}
+use Rattle.script.specs.Orders.{lone_order, show_order}
+use Rattle.script.proofs.Laws.{other_length, other_byte}
 use Rattle.script.proofs.alone.Goals as goal
 
-pub returns-then-is : goal.returns-then-is
-unfolding lone_order
-returns-then-is c = search cases
-
-pub returns-then-is-2 : goal.returns-then-is-2
-unfolding lone_order
-returns-then-is-2 c = search cases
-
-pub returns-then-is-3 : goal.returns-then-is-3
-unfolding lone_order
-returns-then-is-3 c = search cases
-
-pub returns : goal.returns
-unfolding lone_order
-returns c = search cases
+pub returns-in_default-clause-order : goal.returns-in_default-clause-order
+unfolding lone_order show_order pick
+returns-in_default-clause-order c = grind (arith, common_steps, other_length, other_byte)

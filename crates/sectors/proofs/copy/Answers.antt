@@ -1,51 +1,28 @@
-use mathlib.Core.Path.{◌≡◌, refl}
-use Prim.Native.Nat.{◌+◌, ◌-◌}
-use native.Mathlib.Omega.{arith}
-use Rattle.sectors.proofs.Lent.{some_none, some_more, some_all}
-use borrow.Author.Rules.{rules}
+use Rattle.std.proofs.Common.{◌≡◌, ℕ, ◌+◌, ◌-◌, ◌*◌, ◌≤◌, List, ◌++◌, length, take, drop, replicate, ◌∙◌, sym, arith, length-take, length-drop}
+use lib.Seq.{take-take}
+use Rattle.sectors.specs.Sectors.{sector, put_sector, fit}
+use Rattle.sectors.proofs.Laws.{inside, part}
 use Rattle.sectors.proofs.copy.Goals as goal
 
-pub loop-at-init : goal.loop-at-init
-loop-at-init c =
-    (search rules, refl, some_none c.args.size c.args.flash.now c.args.source c.args.target c.requires.size_in_bounds.0 c.requires.size_in_bounds.1 c.requires.count_le_size.1)
+-- the first n bytes of what is at a, which lies in the front of F
+read : (S a n to : ℕ) (F front : List ℕ) → front ≡ take to F → a + n ≤ to → n ≤ S → take (a + n - a) (drop a front) ≡ take n (take S (drop a F))
+read S a n to F front is h l =
+    let e : a + n - a ≡ n = omega arith in
+    rw (e, is) (sym (part a to n F h) ∙ sym (take-take n S (drop a F) l))
 
-pub loop-at-preserved : goal.loop-at-preserved
-loop-at-preserved c = (
-  search rules,
-  search rules,
-  some_more c.args.size c.args.flash.now c.args.source c.args.target c.requires.size_in_bounds.0 c.requires.size_in_bounds.1 c.requires.count_le_size.1 c.loop-at.at 64 c.loop-at.flash c.copy_piece.new.flash c.loop-at.invariant.2 (omega arith) c.copy_piece.ensures,
-)
+-- what is stored at `to`, where F is split
+stored : (S a n to : ℕ) (F front back y : List ℕ) → front ≡ take to F → back ≡ drop to F → a + n ≤ to → to + S ≤ length F → n ≤ S
+    → y ≡ take (a + n - a) (drop a front) ++ replicate (length (take S back) - length (take (a + n - a) (drop a front))) 0xFF
+    → front ++ (y ++ drop S back) ≡ take to F ++ (fit S n (take S (drop a F)) ++ drop S (drop to F))
+unfolding fit
+stored S a n to F front back y is is' h fits l e =
+    let wide : length (take S back) ≡ S = rw is' (simp (length-take, length-drop) (omega arith)) in
+    let long : length (take n (take S (drop a F))) ≡ n = simp (length-take, length-drop) (omega arith) in
+    rw (e, wide, read S a n to F front is h l, long, is, is')
 
-pub returns : goal.returns
-returns c =
-    let all : c.loop-at.at + (c.args.count - c.loop-at.at) ≡ c.args.count = omega arith in
-    let e =
-    some_more
-    c.args.size
-    c.args.flash.now
-    c.args.source
-    c.args.target
-    c.requires.size_in_bounds.0
-    c.requires.size_in_bounds.1
-    c.requires.count_le_size.1
-    c.loop-at.at
-    (c.args.count - c.loop-at.at)
-    c.loop-at.flash
-    c.copy_piece-2.new.flash
-    c.loop-at.invariant.2
-    (omega arith)
-    c.copy_piece-2.ensures in
-    some_all
-    c.args.size
-    c.args.flash.now
-    c.args.source
-    c.args.target
-    c.requires.size_in_bounds.0
-    c.requires.size_in_bounds.1
-    c.requires.count_le_size.1
-    c.args.count
-    c.copy_piece-2.new.flash
-    c.blank.new.part
-    (rw all at e)
-    c.requires.count_le_size.0
-    c.blank.ensures
+pub returns-then-source-target : goal.returns-then-source-target
+unfolding sector put_sector
+returns-then-source-target c =
+    let a = c.args in
+    let before = inside a.size c.if-source-target.true in
+    stored a.size (a.source * a.size) a.count (a.target * a.size) a.flash.now _ _ _ c.split_at_mut-front.ensures.front c.split_at_mut-front.ensures.back (omega arith) (omega arith) (omega arith) c.store.ensures

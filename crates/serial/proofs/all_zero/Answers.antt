@@ -1,15 +1,10 @@
-use Prim.Native.Nat.{◌<◌, ◌-◌, suc}
-use mathlib.Core.Path.{◌≡◌}
-use native.Mathlib.Omega.{arith}
-use lib.ListN.{length}
-use Rattle.serial.proofs.Laws.{zero_none, zero_more}
+use Rattle.std.proofs.Common.{rules, ◌≡◌, ◌∙◌, ap, eqb}
+use Rattle.std.specs.List.{fold}
+use lib.Bits.{bit_or}
+use Rattle.serial.proofs.Laws.{or_none}
 use Rattle.serial.proofs.all_zero.Goals as goal
 
-pub loop-i-init : goal.loop-i-init
-loop-i-init c = (omega arith, zero_none c.args.s.now)
-
-pub loop-i-preserved : goal.loop-i-preserved
-loop-i-preserved c =
-    let h : c.loop-i.i - 1 < length c.args.s.now = omega arith in
-    let e : suc (c.loop-i.i - 1) ≡ c.loop-i.i = omega arith in
-    (omega arith, zero_more c.args.s.now c.loop-i.i (c.loop-i.i - 1) _ e h c.loop-i.invariant.1)
+pub returns : goal.returns
+returns c =
+    let e : c.fold.result ≡ fold (λ any b. bit_or any b) 0 c.args.s.now = search rules in
+    ap (λ x. eqb x 0) e ∙ or_none c.args.s.now

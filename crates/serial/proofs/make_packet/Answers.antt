@@ -1,18 +1,18 @@
-use mathlib.Core.Path.{refl}
+use mathlib.Core.Path.{◌≡◌, refl}
 use native.Mathlib.Omega.{arith}
-use Rattle.serial.proofs.Readers.{filled_length, packet_end, packet_in_lem}
+use Prim.Native.Nat.{◌+◌, ◌≤◌, ◌/◌, ◌%◌}
+use Rattle.basics.specs.Words.{byte_at}
+use Rattle.packet.specs.Packets.{opcode_of}
+use Rattle.serial.proofs.Readers.{packet_end, packet_in_lem}
 use Rattle.serial.proofs.make_packet.Goals as goal
 
-pub slice_bounds-copy_from_slice-end : goal.slice_bounds-copy_from_slice-end
-slice_bounds-copy_from_slice-end c = omega (arith, filled_length c.args.reader.now c.requires.filled)
-
-pub bounds-reader-11 : goal.bounds-reader-11
-bounds-reader-11 c = omega (arith, filled_length c.args.reader.now c.requires.filled)
+pub slice_bounds-result-end : goal.slice_bounds-result-end
+slice_bounds-result-end c =
+    let end : 12 + byte_at c.args.reader.now 11 ≤ 78 = omega (arith, packet_end c.args.reader.now c.requires.filled _ c.requires.reader_value) in
+    end
 
 pub returns : goal.returns
 returns c =
-    let end = packet_end c.args.reader.now c.requires.filled _ c.requires.reader_value in
-    record {
-      lower_bound = (omega (arith, end), omega (arith, end));
-      reader_after = rw (c.copy_from_slice.ensures.after, c.opcode_of-opcode.ensures) (packet_in_lem c.args.reader.now c.requires.filled _ c.requires.reader_value _ refl);
-    }
+    let high : opcode_of c.args.command / 256 % 256 ≡ opcode_of c.args.command / 256 = omega (arith, c.from.type_inv, c.from.ensures) in
+    rw (c.copy_from_slice.ensures.after, c.to_le_bytes.ensures, c.from.ensures, high)
+    (packet_in_lem c.args.reader.now c.requires.filled _ c.requires.reader_value _ refl)

@@ -1,15 +1,10 @@
-use Prim.Native.Nat.{◌<◌, ◌-◌, suc}
-use mathlib.Core.Path.{◌≡◌}
-use native.Mathlib.Omega.{arith}
-use lib.ListN.{length}
-use Rattle.serial.proofs.Laws.{xor_none, xor_more}
+use Rattle.std.proofs.Common.{rules, ◌≡◌, ◌∙◌, reverse}
+use Rattle.std.specs.List.{fold}
+use lib.Bits.{bit_xor}
+use Rattle.serial.proofs.Laws.{xor_back}
 use Rattle.serial.proofs.xor_of.Goals as goal
 
-pub loop-i-init : goal.loop-i-init
-loop-i-init c = (omega arith, xor_none c.args.s.now)
-
-pub loop-i-preserved : goal.loop-i-preserved
-loop-i-preserved c =
-    let h : c.loop-i.i - 1 < length c.args.s.now = omega arith in
-    let e : suc (c.loop-i.i - 1) ≡ c.loop-i.i = omega arith in
-    (omega arith, xor_more c.args.s.now c.loop-i.i (c.loop-i.i - 1) _ e h c.loop-i.invariant.1)
+pub returns : goal.returns
+returns c =
+    let e : c.rfold.result ≡ fold (λ x b. bit_xor b x) 0 (reverse c.args.s.now) = search rules in
+    e ∙ xor_back c.args.s.now

@@ -1,14 +1,11 @@
-use Rattle.services.proofs.Laws.{boundary_low, erasable, auth_bytes}
 use Rattle.device.specs.Layout.{decode}
+use Rattle.services.specs.Calls.{numbers_of}
+use Rattle.services.proofs.Laws.{sensible, boundary_low, erasable, auth_bytes}
 use Rattle.services.proofs.Outcomes.{answer_of_lem, bytes_of}
 use Rattle.services.proofs.answer_to.Goals as goal
 
 pub look_for-checked-requires : goal.look_for-checked-requires
-look_for-checked-requires c = record {
-  sensible = c.requires.sensible;
-  rec_len = c.requires.held.size;
-  rec_bound = (boundary_low _ _ _ c.requires.taking.record_sound, c.requires.taking.lent_flash);
-}
+look_for-checked-requires c = (boundary_low _ _ _ c.requires.taking.record_sound, c.requires.taking.lent_flash)
 
 pub command-answer-requires : goal.command-answer-requires
 command-answer-requires c = record {
@@ -19,15 +16,16 @@ command-answer-requires c = record {
 pub clear_after-requires : goal.clear_after-requires
 clear_after-requires c =
     let d = decode c.args.rec.now in
+    let board = c.args.board in
     rw c.look_for-checked.ensures
-    (erasable c.args.k d.head c.args.command d.key c.args.flash.now c.requires.sensible (boundary_low c.args.k.size c.args.k.top d c.requires.taking.record_sound) c.requires.taking.lent_flash)
+    (erasable (numbers_of board) d.head c.args.command d.key c.args.flash.now (sensible board) (boundary_low board.size board.top d c.requires.taking.record_sound) c.requires.taking.lent_flash)
 
 pub returns : goal.returns
 unfolding decode
 returns c =
     rw (
       bytes_of _ _ _ _ _ c.command-answer.ensures,
-      c.reason_in.ensures,
+      c.reason.ensures,
       c.respond.ensures,
       answer_of_lem _ _ _ _ _ c.command-answer.ensures,
       c.clear_after.ensures,

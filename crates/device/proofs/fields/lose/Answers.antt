@@ -1,11 +1,12 @@
-use mathlib.Core.Path.{◌≡◌, ◌∙◌}
-use Rattle.basics.specs.Words.{put_at, zeros}
-use Rattle.device.specs.Whole.{with_locks}
-use Rattle.device.specs.Layout.{locks_at, encode}
+use mathlib.Core.Path.{◌≡◌, ap, ◌∙◌}
+use Rattle.basics.specs.Words.{zeros}
+use Rattle.device.specs.Layout.{head_bytes, encode}
+use Rattle.device.proofs.Records.{locks_length}
 use Rattle.device.proofs.Stored.{drop_in}
 use Rattle.device.proofs.fields.lose.Goals as goal
 
 pub returns : goal.returns
+unfolding encode head_bytes zeros
 returns c = λ d k e.
-    let z : put_at c.args.rec.now locks_at (zeros 101) ≡ encode (with_locks (zeros 101) d) = rw e (drop_in d k) in
-    c.clear_lost.ensures (with_locks (zeros 101) d) (c.drop_locks.ensures ∙ z)
+    let f : c.fill.new.self ≡ zeros 101 = c.fill.ensures.after (λ y h. h) ∙ ap zeros (locks_length c.args.rec.now c.told-rec) in
+    rw (drop_in d c.args.rec.now c.fill.new.self k e f)

@@ -5,7 +5,7 @@ use Rattle.device.specs.Kind.{fresh_device}
 use Rattle.device.proofs.fields.set_fresh.Goals as goal
 
 pub returns : goal.returns
-unfolding fresh_device
+unfolding fresh_device zeros
 returns c =
-    let z = c.clear.ensures ∙ ap zeros c.requires ∙ zeros_blank in
+    let z = c.fill.ensures.after (λ y h. h) ∙ ap zeros c.told-rec ∙ zeros_blank in
     c.set_mode.ensures _ (c.set_stack.ensures blank z)

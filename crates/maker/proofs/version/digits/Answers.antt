@@ -1,43 +1,38 @@
-use Prim.Native.Nat.{◌+◌, ◌*◌, ◌≤◌, ◌<◌}
-use mathlib.Core.Path.{◌≡◌, refl, ◌∙◌}
+use Prim.Native.Nat.{ℕ, ◌+◌, ◌*◌}
+use mathlib.Core.Path.{◌≡◌, ap, sym, ◌∙◌}
 use mathlib.Core.List.{[]}
 use native.Mathlib.Omega.{arith}
-use lib.ListN.{drop, get_or, drop_of_length-le}
-use borrow.Author.Rules.{rules}
-use Rattle.basics.specs.Choice.{yes_by, cases}
-use Rattle.line.specs.Hex.{nibble_of}
-use Rattle.maker.specs.Versions.{are_digits, value_of, digits_of}
-use Rattle.maker.proofs.Digits.{bad_digit, good_digit, next_value, grows, no_digits, too_large, number}
+use lib.ListN.{drop, drop_of_length-le}
+use Rattle.maker.specs.Versions.{are_digits, value_of}
+use Rattle.maker.proofs.Digits.{bad_digit, good_digit, next_value, grows, no_digits, too_large, too_long, short_enough, number}
 use Rattle.maker.proofs.version.digits.Goals as goal
 
-pub returns-then-text-eq0 : goal.returns-then-text-eq0
-unfolding digits_of
-returns-then-text-eq0 c = yes_by _ _ _ _ (search cases) refl
+pub returns-in_err-digit : goal.returns-in_err-digit
+returns-in_err-digit c =
+    let bad = bad_digit c.args.base c.args.text.now c.loop-c.c-index (omega arith) c.digit.result c.digit.ensures c.in_err-digit.was in
+    rw c.from_residual.ensures (no_digits c.args.base c.args.text.now (c.loop-c.invariant.digits ∙ bad))
 
-pub returns-then-base-digit : goal.returns-then-base-digit
-returns-then-base-digit c =
-    let bad : c.args.base ≤ nibble_of (get_or c.args.text.now c.loop-i.i 0) = rw c.nibble-digit.ensures.value at c.if-base-digit.true in
-    no_digits c.args.base c.args.text.now (c.loop-i.invariant.3 ∙ bad_digit c.args.base c.args.text.now c.loop-i.i (search rules) bad)
+pub returns-in_err-value : goal.returns-in_err-value
+returns-in_err-value c =
+    let next = next_value c.args.base c.args.text.now c.loop-c.c-index (omega arith) c.digit.result c.digit.ensures c.in_ok-digit.field-0 c.loop-c.value c.in_ok-digit.was in
+    let long = too_long (c.loop-c.value * c.args.base + c.in_ok-digit.field-0) (sym c.longer.ensures ∙ c.in_err-value.was) in
+    let more = grows c.args.base (c.loop-c.value * c.args.base + c.in_ok-digit.field-0) (drop (c.loop-c.c-index + 1) c.args.text.now) (omega arith) in
+    rw c.from_residual-in_err-value.ensures (too_large c.args.base c.args.text.now (omega (arith, c.loop-c.invariant.value ∙ next, more, long)))
 
-pub returns-then-value-gt4294967295 : goal.returns-then-value-gt4294967295
-returns-then-value-gt4294967295 c =
-    let next : value_of c.args.base 0 c.args.text.now ≡ value_of c.args.base (c.loop-i.value * c.args.base + c.nibble-digit.result) (drop (c.loop-i.i + 1) c.args.text.now) =
-    rw c.nibble-digit.ensures.value (c.loop-i.invariant.4 ∙ next_value c.args.base c.args.text.now c.loop-i.i (search rules) c.loop-i.value) in
-    let more = grows c.args.base (c.loop-i.value * c.args.base + c.nibble-digit.result) (drop (c.loop-i.i + 1) c.args.text.now) (omega arith) in
-    too_large c.args.base c.args.text.now (omega (arith, next, more))
-
-pub loop-i-preserved : goal.loop-i-preserved
-loop-i-preserved c =
-    let good : nibble_of (get_or c.args.text.now c.loop-i.i 0) < c.args.base = rw c.nibble-digit.ensures.value at c.if-base-digit.false in (
-      search rules,
-      search rules,
-      omega arith,
-      c.loop-i.invariant.3 ∙ good_digit c.args.base c.args.text.now c.loop-i.i (search rules) good,
-      rw c.nibble-digit.ensures.value (c.loop-i.invariant.4 ∙ next_value c.args.base c.args.text.now c.loop-i.i (search rules) c.loop-i.value),
-    )
+pub loop-c-preserved : goal.loop-c-preserved
+loop-c-preserved c =
+    let good = good_digit c.args.base c.args.text.now c.loop-c.c-index (omega arith) c.digit.result c.digit.ensures c.in_ok-digit.field-0 c.in_ok-digit.was in
+    let next = next_value c.args.base c.args.text.now c.loop-c.c-index (omega arith) c.digit.result c.digit.ensures c.in_ok-digit.field-0 c.loop-c.value c.in_ok-digit.was in
+    let short = short_enough (c.loop-c.value * c.args.base + c.in_ok-digit.field-0) c.in_ok-value.value (sym c.longer.ensures ∙ c.in_ok-value.was) in
+    record {
+      some = c.loop-c.invariant.some;
+      small = omega (arith, short.0, short.1);
+      digits = c.loop-c.invariant.digits ∙ good;
+      value = c.loop-c.invariant.value ∙ next ∙ ap (λ (n : ℕ). value_of c.args.base n (drop (c.loop-c.c-index + 1) c.args.text.now)) short.1;
+    }
 
 pub returns : goal.returns
 unfolding are_digits value_of
 returns c =
-    let done : drop c.loop-i.i c.args.text.now ≡ [] = drop_of_length-le c.args.text.now {i = c.loop-i.i} (search rules) in
-    number c.args.base c.args.text.now c.loop-i.value (search rules) (rw done at c.loop-i.invariant.3) (rw done at c.loop-i.invariant.4) (search rules)
+    let done : drop c.loop-c.c-index c.args.text.now ≡ [] = drop_of_length-le c.args.text.now {i = c.loop-c.c-index} (omega arith) in
+    number c.args.base c.args.text.now c.loop-c.value c.loop-c.invariant.some (rw done at c.loop-c.invariant.digits) (rw done at c.loop-c.invariant.value) c.loop-c.invariant.small

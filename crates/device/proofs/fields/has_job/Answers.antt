@@ -1,7 +1,0 @@
-use Rattle.device.specs.Layout.{image_at, image_version_at, mode_at, recorded_at, size_at}
-use Rattle.basics.specs.Words.{byte_at, word_at}
-use Rattle.device.proofs.Stored.{has_job_by}
-use Rattle.device.proofs.fields.has_job.Goals as goal
-
-pub returns : goal.returns
-returns c = has_job_by (byte_at c.args.rec.now mode_at) (word_at c.args.rec.now image_at) (word_at c.args.rec.now size_at) (word_at c.args.rec.now image_version_at) (word_at c.args.rec.now recorded_at)
