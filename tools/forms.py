@@ -3,7 +3,7 @@
 
     python3 tools/forms.py             the counts
     python3 tools/forms.py FORM        the places of one form
-    python3 tools/forms.py --at DIR .. the same of another checkout
+    python3 tools/forms.py --at DIR    the same of another checkout
 """
 import argparse
 import re
