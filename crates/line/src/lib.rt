@@ -51,11 +51,13 @@ pub fn pair(high: u8, low: u8) -> Option<u8>
     Some(16 * nibble(high)? + nibble(low)?)
 }
 
-// The bytes that the pairs of a line stand for, written to the start of out. None where the line is not made of pairs.
-pub fn decode<'a>(line: &[u8], out: &'a mut [u8]) -> Option<&'a [u8]>
+// The bytes that the pairs of a line stand for, written to the start of out; how many. None where the line is not made of pairs.
+// Kept: a count and no slice: `bytes` says what stands in `out` after the call, which a slice lent from it can't.
+pub fn decode(line: &[u8], out: &mut [u8]) -> Option<usize>
     requires { length line.now ≤ 2 * length out.old }
     ensures pairs { is_some result ≡ are_pairs line.now }
-    ensures bytes { IfSome result (λ bytes. bytes.now ≡ bytes_of line.now) }
+    ensures count { IfSome result (λ n. n ≡ length line.now / 2) }
+    ensures bytes { IfSome result (λ n. take n out.new ≡ bytes_of line.now) }
 {
     let (pairs, []) = line.as_chunks::<2>() else {
         return None;
@@ -63,7 +65,7 @@ pub fn decode<'a>(line: &[u8], out: &'a mut [u8]) -> Option<&'a [u8]>
     for (i, [high, low]) in pairs.iter().enumerate() {
         out[i] = pair(*high, *low)?;
     }
-    Some(&out[..pairs.len()])
+    Some(pairs.len())
 }
 
 // A hex digit in capitals.
@@ -144,8 +146,9 @@ pub fn answer(line: &[u8]) -> Text
     if LONGEST < line.len() {
         return bad_text();
     }
-    match decode(line, &mut [0; LONGEST / 2]) {
-        Some(bytes) => reading_text(packet::read(bytes)),
+    let mut bytes = [0; LONGEST / 2];
+    match decode(line, &mut bytes) {
+        Some(n) => reading_text(packet::read(&bytes[..n])),
         None => bad_text(),
     }
 }

@@ -57,9 +57,9 @@ impl Bench {
     // A packet to the device.
     fn packet(&mut self, digits: &[u8]) -> Answer<'_> {
         let mut room = [0; PACKET];
-        let packet = script::packet_bytes(digits, &mut room);
+        let n = script::packet_bytes(digits, &mut room);
         let mut response = [0; 8];
-        let reason = services::handle(&mut self.rec, &mut self.flash, packet, &mut response)?;
+        let reason = services::handle(&mut self.rec, &mut self.flash, &room[..n], &mut response)?;
         Ok(Reply::Response { response, reason })
     }
 
@@ -69,7 +69,8 @@ impl Bench {
         let mut room = [0; PACKET];
         let mut sent = Cursor::new(self.sent.as_mut_slice());
         let mut last = None;
-        for byte in script::packet_bytes(digits, &mut room) {
+        let n = script::packet_bytes(digits, &mut room);
+        for byte in &room[..n] {
             let mut out = [0; 10];
             if let Ok(Sent { count, reason }) = serial::byte(
                 &mut self.rec,

@@ -1,7 +1,8 @@
 // One line of a script, read: the order that it is, with its numbers and its bytes.
 #![tactic(auto)]
 
-ghost use Rattle.std.specs.Prelude.{◌≡◌, ◌≤◌, ◌<◌, IfOk, length, eqb};
+ghost use Rattle.std.specs.Prelude.{◌≡◌, ◌≤◌, ◌<◌, IfOk, length, take, eqb};
+ghost use Rattle.line.specs.Answer.{Counted};
 ghost use Rattle.script.specs.Words.{first_of, rest_at, rest_of, place_in, decimal_in, pair_in, packet_bytes};
 ghost use Rattle.std.specs.List.{position};
 ghost use Rattle.std.specs.Option.{ok_or};
@@ -147,16 +148,17 @@ fn hex_byte(word: &[u8]) -> Option<u8>
     line::pair(*high, *low)
 }
 
-// The bytes that hex digits stand for, written to the start of out. No bytes where the digits are no pairs, or too many.
-// Kept: no bytes and no None: `packet_bytes` can't fail, and its definition has no bytes there.
+// The bytes that hex digits stand for, written to the start of out; how many. None of them where the digits are no pairs, or too many.
+// Kept: no bytes and no None: `packet_bytes` can't fail, and its definition has no bytes there. And a count and no slice, as in `line::decode`.
 #[tactic(auto, unfolding(basics::specs::Choice::pick, crate::specs::Words::packet_bytes))]
-pub fn packet_bytes<'a>(digits: &[u8], out: &'a mut [u8; 260]) -> &'a [u8]
-    ensures { result.now ≡ packet_bytes digits.now }
+pub fn packet_bytes(digits: &[u8], out: &mut [u8; 260]) -> usize
+    ensures bytes { take result out.new ≡ packet_bytes digits.now }
+    ensures fits { Counted result out.new }
 {
     if line::LONGEST < digits.len() {
-        return &[];
+        return 0;
     }
-    line::decode(digits, out).unwrap_or(&[])
+    line::decode(digits, out).unwrap_or(0)
 }
 
 // Hex pairs, or what is wrong with them.
