@@ -18,12 +18,13 @@ const ROOM: usize = script::LONGEST + 1;
 // Room for the longest reply line, a record's digits, and more.
 const LONGEST: usize = 16384;
 
-// Writes a line at once. A write that fails is passed over.
-fn say(rt: &impl Print, reply: impl Display + Drop) {
-    let mut line = Cursor::new([0; LONGEST]);
+// Writes a line at once, in room that is made but once: to fill it with zeros for each line takes longer than most lines. A write that fails is
+// passed over.
+fn say(rt: &impl Print, room: &mut [u8; LONGEST], reply: &impl Display) {
+    let mut line = Cursor::new(room.as_mut_slice());
     let _ = writeln!(line, "{reply}");
     let end = line.position() as usize;
-    if let Some(text) = line.get_ref().get(..end) {
+    if let Some(text) = room.get(..end) {
         let _ = rt.write_all(text);
     }
 }
@@ -32,13 +33,14 @@ fn say(rt: &impl Print, reply: impl Display + Drop) {
 fn main(rt: HostRuntime) {
     let mut lines = Lines::<_, ROOM>::new(rt.stdin());
     let mut bench = Bench::new();
+    let mut room = [0; LONGEST];
     for _ in 0..u64::MAX {
         let Some(line) = lines.next_line() else {
             break;
         };
         match bench.answer(&rt, line) {
-            Ok(reply) => say(&rt, reply),
-            Err(trouble) => say(&rt, trouble),
+            Ok(reply) => say(&rt, &mut room, &reply),
+            Err(trouble) => say(&rt, &mut room, &trouble),
         }
     }
 }

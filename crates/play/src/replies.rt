@@ -5,7 +5,7 @@ use answer::Reason;
 use device::{Device, Head};
 use packet::Refusal;
 use script::Fault;
-use std::fmt;
+use std::{fmt, str};
 
 // What an order is answered.
 #[derive(Clone, Copy)]
@@ -62,7 +62,10 @@ impl From<Refusal> for Trouble {
     }
 }
 
-// Bytes as hex digits.
+// How many bytes are printed at a time.
+const PIECE: usize = 64;
+
+// Bytes as hex digits, printed piece by piece: one by one, those of a sector take many times as long.
 #[derive(Clone, Copy)]
 struct Hex<'a>(&'a [u8]);
 
@@ -76,8 +79,14 @@ struct Map<'a>(&'a [u8]);
 
 impl fmt::Display for Hex<'_> {
     fn fmt<W: fmt::Write>(&self, f: &mut fmt::Formatter<W>) -> fmt::Result {
-        for byte in self.0 {
-            write!(f, "{byte:02X}")?;
+        for piece in self.0.chunks(PIECE) {
+            let mut digits = [0; 2 * PIECE];
+            let (pairs, _) = digits.as_chunks_mut::<2>();
+            for (pair, byte) in pairs.iter_mut().zip(piece) {
+                *pair = [line::digit(byte / 16), line::digit(byte % 16)];
+            }
+            let text = digits.get(..2 * piece.len()).unwrap_or(&[]);
+            f.write_str(str::from_utf8(text).unwrap_or(""))?;
         }
         Ok(())
     }
