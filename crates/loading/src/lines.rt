@@ -22,7 +22,9 @@ impl<R: Read + Drop> Bytes<R> {
     ghost use Rattle.std.specs.Io.KnownBytes.{Keeps};
     ghost use Rattle.loading.specs.Lines.{left};
 
-    // Where the chunk is used up, reads the next one. A read that fails is the end.
+    // Where the chunk is used up, reads the next one. A read that fails is the end. (Apart from `next`, which takes over twice the time with it in line.)
+    #[cold]
+    #[inline(never)]
     fn fill(&mut self)
         ensures { Keeps (left R.remaining self.old) (left R.remaining self.new) }
     {
@@ -41,9 +43,11 @@ impl<R: Read + Drop> Iterator for Bytes<R> {
     ghost next_gives = { λ before byte after. Takes (left R.remaining before) byte (left R.remaining after) };
 
     fn next(&mut self) -> Option<u8> {
-        self.fill();
         if self.end <= self.at {
-            return None;
+            self.fill();
+            if self.end <= self.at {
+                return None;
+            }
         }
         let byte = self.chunk[self.at];
         self.at += 1;
