@@ -50,7 +50,8 @@ fn room() -> [u8; maker::LONGEST] {
     [0; maker::LONGEST]
 }
 
-// Makes the file IMAGE of the file BODY.
+// Makes the file IMAGE of the file BODY. (In line, the room for a body would stand on the stack also where a word is refused.)
+#[inline(never)]
 fn make(rt: &(impl Env + Files), wanted: Wanted) -> Result<Header, Wrong> {
     let mut room = room();
     let body = files::read(rt, Word::Body, &mut room)
