@@ -43,11 +43,18 @@ pub fn write_response(reply: &mut [u8], command: Command, status: u8, payload: u
     ensures reply_after { reply.new ≡ replied 8 (length reply.old) (response command status payload) }
 {
     let [low, high] = u16::from(command).to_le_bytes();
+    // with no payload the eighth byte is the first of the zeros: so one message serves for both lengths, which takes less time than two
+    let mut length = 4;
+    let mut last = 0;
     if has_payload(command) {
-        put(reply, 8, &[0x11, 0x0E, 5, 0xFF, low, high, status, payload])
-    } else {
-        put(reply, 8, &[0x11, 0x0E, 4, 0xFF, low, high, status])
+        length = 5;
+        last = payload;
     }
+    put(
+        reply,
+        8,
+        &[0x11, 0x0E, length, 0xFF, low, high, status, last],
+    )
 }
 
 // The event's code.
