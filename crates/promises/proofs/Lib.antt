@@ -1,5 +1,6 @@
 pub mod Cases
 pub mod Room
+pub mod Bounds
 pub mod Under
 pub mod Still
 pub mod Demand
