@@ -43,8 +43,14 @@ def block_end(text, start):
 
 
 def by_value(kind, text):
-    """Does a text hold, take or return such a type, not lent, or make one? A word behind two colons is a variant's."""
-    return re.search(rf'((?<!:):|->)\s*{kind}\b(?!::)|(?<!&mut )(?<!&)\b{kind}\s*\{{', text)
+    """Does a text hold, take or return such a type, not lent, or make one? A type may stand behind its path; a word before two colons is an enum's."""
+    return re.search(rf'((?<!:):|->)\s*(\w+::)*{kind}\b(?!::)|(?<!&mut )(?<!&)\b{kind}\s*\{{', text)
+
+
+def copied(kind, text):
+    """The first name in a text that is lent such a type and copied as a whole."""
+    lent = re.findall(rf'\b(\w+): &(?:\'\w+ )?(?:mut )?(?:\w+::)*{kind}\b', text)
+    return next((name for name in lent if re.search(rf'(?<!&)(?<!&mut )\*{name}\b(?!\[)', text)), None)
 
 
 def imports(text):
@@ -152,6 +158,7 @@ class Crates:
             text, where = self.functions[crate, module, name], f'crates/{crate}/src/{module}.rt: {name}'
             yield from (f'{where}: {what}, {size} bytes' for what, size in self.arrays(text) if size > MOST)
             yield from (f'{where}: a {kind} by value' for kind in sorted(large) if by_value(kind, text))
+            yield from (f'{where}: *{name}, a {kind}' for kind in sorted(large) if (name := copied(kind, text)))
 
 
 # file, what stands there, what is planted in its place
@@ -163,6 +170,10 @@ PLANTS = [
     ('plan/src/lib.rt', 'match made {', 'let spare = [made; 65];\n        match made {'),
     ('plan/src/lib.rt', 'fn blocks(self) -> usize', 'fn blocks(self, c: [u8; 100]) -> usize'),
     ('jobs/src/stores.rt', 'match store {', 'let d: Device = kept();\n    match store {'),
+    ('jobs/src/stores.rt', 'match store {', 'let d: device::Device = kept();\n    match store {'),
+    ('jobs/src/lib.rt', 'fn finish(rec: &mut Record, board: Board)\n', 'fn finish(rec: &mut Record, board: Board) -> device::Record\n'),
+    ('jobs/src/lib.rt', 'match store {', 'let spare = *rec;\n    match store {'),
+    ('jobs/src/lib.rt', 'match store {', 'let spare: u8 = seen(*rec);\n    match store {'),
     ('jobs/src/lib.rt', 'fn finish(rec: &mut Record, board: Board)', 'fn finish(rec: &mut Record, board: Board) -> [u8; 65]'),
 ]
 
