@@ -4,7 +4,7 @@
     tests/stack/arrays.py [FOLDER]    FOLDER has the crates, and crates.txt beside it; it is crates, in the repository's folder, if none is named
 
 From grzelotka_work and grzelotka_cut on, every function that is called is looked at, of the crates that grzelotka stands on, and what it calls in turn: locals, parameters, results and
-temporaries that are arrays, or structs with an array in them that are not lent, may have 64 bytes at most. Arrays of a length that can't be
+temporaries that are arrays, or structs with an array in them that are not lent, or are copied by `*`, may have 64 bytes at most. Arrays of a length that can't be
 read here count as too large. Each is told with its file and function, and the status is 1.
 
     tests/stack/arrays.py --self-test    plants such arrays in copies of the crates; each must be found
@@ -43,14 +43,15 @@ def block_end(text, start):
 
 
 def by_value(kind, text):
-    """Does a text hold, take or return such a type, not lent, or make one? A type may stand behind its path; a word before two colons is an enum's."""
-    return re.search(rf'((?<!:):|->)\s*(\w+::)*{kind}\b(?!::)|(?<!&mut )(?<!&)\b{kind}\s*\{{', text)
+    """Does a text hold, take or return such a type, not lent, or make one, also inside another type? A word behind an enum's name, which has a capital, is a variant's."""
+    path = r'(?:::)?(?:[a-z_]\w*::)'
+    return re.search(rf'(?:(?<!:):|->|[<(\[,])\s*{path}*{kind}\b(?!::)|(?<!&mut )(?<!&)\b{kind}\s*\{{|(?<!&mut )(?<!&)(?<![\w:]){path}+{kind}\b(?!::)', text)
 
 
 def copied(kind, text):
     """The first name in a text that is lent such a type and copied as a whole."""
     lent = re.findall(rf'\b(\w+): &(?:\'\w+ )?(?:mut )?(?:\w+::)*{kind}\b', text)
-    return next((name for name in lent if re.search(rf'(?<!&)(?<!&mut )\*{name}\b(?!\[)', text)), None)
+    return next((name for name in lent if re.search(rf'(?<!&)(?<!&mut )\*{name}\b(?!\[)|\b{name}\.clone\(\)', text)), None)
 
 
 def imports(text):
@@ -174,6 +175,14 @@ PLANTS = [
     ('jobs/src/lib.rt', 'fn finish(rec: &mut Record, board: Board)\n', 'fn finish(rec: &mut Record, board: Board) -> device::Record\n'),
     ('jobs/src/lib.rt', 'match store {', 'let spare = *rec;\n    match store {'),
     ('jobs/src/lib.rt', 'match store {', 'let spare: u8 = seen(*rec);\n    match store {'),
+    ('jobs/src/lib.rt', 'match store {', 'let spare = rec.clone();\n    match store {'),
+    ('jobs/src/stores.rt', 'match store {', 'let d: Option<device::Device> = kept();\n    match store {'),
+    ('jobs/src/stores.rt', 'match store {', 'let d: (u8, device::Device) = kept();\n    match store {'),
+    ('jobs/src/stores.rt', 'match store {', 'let d: [::device::Device; 2] = kept();\n    match store {'),
+    ('jobs/src/stores.rt', 'match store {', 'let d = kept::<device::Device>();\n    match store {'),
+    ('jobs/src/stores.rt', 'match store {', 'let d = kept() as device::Device;\n    match store {'),
+    ('jobs/src/stores.rt', 'match store {', 'let d: Result<Device, u8> = kept();\n    match store {'),
+    ('jobs/src/lib.rt', 'fn finish(rec: &mut Record, board: Board)\n', 'fn finish(rec: &mut Record, board: Board) -> Option<Record>\n'),
     ('jobs/src/lib.rt', 'fn finish(rec: &mut Record, board: Board)', 'fn finish(rec: &mut Record, board: Board) -> [u8; 65]'),
 ]
 
